@@ -1,0 +1,5 @@
+pub mod Boards
+pub mod Inputs
+pub mod Laws
+pub mod Meaning
+pub mod Words

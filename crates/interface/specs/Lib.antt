@@ -1,0 +1,5 @@
+pub mod Answers
+pub mod Digest
+pub mod Games
+pub mod Keepers
+pub mod Limits

@@ -1,0 +1,12 @@
+pub mod Steps
+pub mod Growth
+pub mod Counting
+pub mod Walks
+pub mod Confirming
+pub mod Changes
+pub mod Replaying
+pub mod Happening
+pub mod Reporting
+pub mod Going
+pub mod Listing
+pub mod Guessing

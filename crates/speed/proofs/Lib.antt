@@ -1,0 +1,9 @@
+pub mod Backs
+pub mod Counts
+pub mod Deals
+pub mod Frames
+pub mod Keeps
+pub mod Packs
+pub mod Sets
+pub mod Sound
+pub mod Steps

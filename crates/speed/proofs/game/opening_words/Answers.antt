@@ -1,0 +1,19 @@
+use mathlib.Core.Path.{ap, _∙_}
+use lib.ListN.{length}
+use Rattle.speed.specs.Lawful.{times, in-play, lawful-state}
+use Rattle.speed.specs.Opening.{dealt, opening-state}
+use Rattle.speed.proofs.Sound.{lawful-from}
+use Rattle.speed.proofs.Deals.{opening-sound, opening-whole}
+use Rattle.speed.proofs.game.opening_words.Needs as need
+
+pub returns : need.returns
+unfolding opening-state
+returns c =
+    let is = c .deal .ensures ∙ ap dealt (c .shuffled-pack-order .ensures .order) in
+    let s = opening-sound (c .args .seed) in
+    record {
+      opening = is;
+      wide = ap length is ∙ s .wide;
+      lawful = ap lawful-state is ∙ lawful-from _ s;
+      whole-pack = λ card h. ap (λ w. times card (in-play w)) is ∙ opening-whole (c .args .seed) card h;
+    }

@@ -1,0 +1,27 @@
+-- What Speed keeps, whatever is played.
+use mathlib.Core.Bool.{true}
+use mathlib.Core.Path.{_≡_}
+use mathlib.Core.List.{List, [], _∷_}
+use Prim.Native.Nat.{ℕ, _<_, _≤_}
+use lib.ListN.{take}
+use Rattle.interface.specs.Games.{State}
+use Rattle.speed.specs.declared.moves.Move.{Move}
+use Rattle.speed.specs.Places.{draws, sides}
+use Rattle.speed.specs.Lawful.{times, in-play}
+use Rattle.speed.specs.Rules.{over, next-state}
+
+-- the state after frames with these moves of seats 0 and 1
+abbrev pub run : State → List (Move × Move) → State
+run w [] = w
+run w (moves ∷ later) = run (next-state w (moves .0) (moves .1)) later
+
+pub record Kept (before after : State) : Type 0 where
+  -- the order of the pack stays
+  pub same-order : take 52 after ≡ take 52 before
+  -- no card is created: none is in play more often than before
+  pub no-new-card : (card : ℕ) → card < 52 → times card (in-play after) ≤ times card (in-play before)
+  -- draw and side counts never rise
+  pub draws-fall : (seat : ℕ) → seat < 2 → draws after seat ≤ draws before seat
+  pub sides-fall : sides after ≤ sides before
+  -- where a seat is out of cards, nothing changes any more
+  pub ended : over before ≡ true → after ≡ before

@@ -1,0 +1,6 @@
+pub mod Counters
+pub mod Datagrams
+pub mod DuelCases
+pub mod PlainMatch
+pub mod Scripts
+pub mod SpeedCases
