@@ -94,8 +94,8 @@ pub read-back : (d : Fields) → Fits d → read-of (bytes-of d) ≡ Ok d
 read-back d f = sound-read (bytes-of d) (written-sound d f) ∙ ap Ok (written-fields d f)
 
 -- every number of it is a byte
-written-bytes : (d : Fields) → Fits d → Bytes (bytes-of d)
-written-bytes d f k =
+written-bytes : (d : Fields) → d .sender < 256 → length (d .codes) ≤ 32 → Bytes (bytes-of d)
+written-bytes d seat few k =
     let byte : ℕ → Type 0 = λ b. b < 256 in
     let head : All byte (header-bytes d) = omega arith in
     let word : All byte (two-bytes (check-word (body-bytes d))) = omega arith in
@@ -194,18 +194,17 @@ module _ (bs : List ℕ) (r : Result Fields Refusal) (fit : Bytes bs) (e : r ≡
   fits : (d : Fields) → r ≡ Ok d → Fits d
   fits d ok = let (s, same) = sound bs d (sym e ∙ ok) in subst Fits same (sound-fits bs s fit)
 
-  detected : (d : Fields) (i b : ℕ) → Fits d → i < length (bytes-of d) → (b ≡ getD (bytes-of d) i 0 → ⊥) → bs ≡ set (bytes-of d) i b → isOk r ≡ false
-  detected d i b f h other was = go r refl
+  detected : (d : Fields) (i b : ℕ) → d .sender < 256 → length (d .codes) ≤ 32 → i < length (bytes-of d) → (b ≡ getD (bytes-of d) i 0 → ⊥) → bs ≡ set (bytes-of d) i b → isOk r ≡ false
+  detected d i b seat few h other was = go r refl
     where
       go : (x : Result Fields Refusal) → r ≡ x → isOk x ≡ false
       go (Err w) k = refl
       go (Ok d′) k =
           let s = sound bs d′ (sym e ∙ k) .0 in
           let n = length-bytes d in
-          let few = f .few in
           let at : getD bs i 0 ≡ b = ap (λ xs. getD xs i 0) was ∙ getD-set-same (bytes-of d) i b 0 h in
           let small = fit i in
-          absurd (other (altered (bytes-of d) i b (omega arith) (omega arith) h (written-bytes d f) (omega arith) (checked (body-bytes d)) (subst Checked was (s .word))))
+          absurd (other (altered (bytes-of d) i b (omega arith) (omega arith) h (written-bytes d seat few) (omega arith) (checked (body-bytes d)) (subst Checked was (s .word))))
 
 pub faithful : (bs : List ℕ) (r : Result Fields Refusal) → Bytes bs → r ≡ read-of bs → Faithful bs r
 faithful bs r fit e = record {

@@ -2,12 +2,13 @@
 use mathlib.Core.Bool.{false}
 use mathlib.Core.List.{List}
 use mathlib.Core.Path.{_≡_}
-use Prim.Native.Nat.{ℕ, _<_}
+use Prim.Native.Nat.{ℕ, _<_, _≤_}
 use lib.ListN.{length, getD, set, take}
 use Rattle.std.specs.Results.{isOk}
 use Rattle.std.specs.declared.result.Result.{Result}
 use Rattle.std.specs.declared.result.Result.the-variants.{Ok}
 use Rattle.interface.specs.declared.answers.Refusal.{Refusal}
+use Rattle.interface.specs.Limits.{most-codes}
 use Rattle.datagram.specs.Fields.{Fields, Fits}
 use Rattle.datagram.specs.Layout.{bytes-of}
 use Rattle.datagram.specs.Reading.{read-of}
@@ -25,8 +26,8 @@ pub record Faithful (bs : List ℕ) (r : Result Fields Refusal) : Type 0 where
   pub fits : (d : Fields) → r ≡ Ok d → Fits d
   -- so no other bytes are accepted as the same datagram
   pub alone : (d : Fields) (other : List ℕ) → Bytes other → r ≡ Ok d → read-of other ≡ Ok d → other ≡ bs
-  -- a written datagram with just one byte altered, whichever and however, is not accepted
-  pub detected : (d : Fields) (i b : ℕ) → Fits d → i < length (bytes-of d) → (b ≡ getD (bytes-of d) i 0 → ⊥) → bs ≡ set (bytes-of d) i b → isOk r ≡ false
+  -- a written datagram with just one byte altered, whichever and however, is not accepted, whatever its seat byte
+  pub detected : (d : Fields) (i b : ℕ) → d .sender < 256 → length (d .codes) ≤ most-codes → i < length (bytes-of d) → (b ≡ getD (bytes-of d) i 0 → ⊥) → bs ≡ set (bytes-of d) i b → isOk r ≡ false
 
 -- of a datagram and a buffer that it was written into: its bytes are read as the same fields
 pub record Readable (d : Fields) (after : List ℕ) : Type 0 where

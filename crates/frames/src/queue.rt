@@ -1,7 +1,8 @@
 // A queue of frames. It holds only the next frame's number: its 32 slots come with each call, and frame f lies in slot f mod 32.
 ghost use mathlib.Core.Path.{_≡_};
 ghost use mathlib.Core.Bool.{true, _&&_};
-ghost use Prim.Native.Nat.{ℕ};
+ghost use Prim.Native.Nat.{ℕ, _+_, _≤_};
+ghost use Rattle.interface.specs.Limits.{top-frame};
 ghost use Rattle.std.specs.Options.{isSome};
 ghost use Rattle.std.specs.Results.{isOk};
 ghost use Rattle.frames.specs.Queue.{whole, in-reach, held, may-put, put-answer, next-after, slots-after, read-after};
@@ -12,6 +13,8 @@ use interface::limits::TOP_FRAME;
 #[derive(Clone, Copy, Debug)]
 pub struct FrameQueue {
     next: u32,
+    // No frame above the last that a queue takes was ever put.
+    ghost low: { next ≤ top-frame + 1 },
 }
 
 impl FrameQueue {

@@ -23,8 +23,8 @@ impl Debt {
         *owed
     }
 
-    // One frame less. Nothing can be paid where nothing is owed.
-    pub fn pay(&mut self)
+    // One frame less. Nothing can be paid where nothing is owed. Only `replay` pays, with a step ahead.
+    pub(crate) fn pay(&mut self)
         requires { ⌜ 0 < now self .owed ⌝ }
         ensures { λ _. ⌜ now (self .exit) .owed ≡ now (self .entry) .owed - 1 ⌝ }
     {

@@ -31,8 +31,9 @@ module _ {I : Type 0} (next : State → I → I → State) (ps : List (I × I)) 
   -- with the inputs that the frames had, nothing changes
   pub same-again : (r : Result (Unit {0}) Refusal) (after : List State) → r ≡ redo-answer (length ps) ss → after ≡ redone next ps ss → Same-again next ps ss r after
   same-again r after e f before some few short was =
-      let reach : length ps < length ss = rw was (replayed-reach next before ps some few short) in
-      (e ∙ redo-reaches (length ps) ss reach, f ∙ redone-replays reach ∙ ap (λ ts. replayed next (drop (length ps) ts) ps) was ∙ replayed-again next before ps some few short ∙ sym was)
+      let eight : length ps ≤ 8 = omega arith in
+      let reach : length ps < length ss = rw was (replayed-reach next before ps some few eight) in
+      (e ∙ redo-reaches (length ps) ss reach, f ∙ redone-replays reach ∙ ap (λ ts. replayed next (drop (length ps) ts) ps) was ∙ replayed-again next before ps some few eight ∙ sym was)
 
 -- one frame of a debt
 pub paid-one : {I : Type 0} (next : State → I → I → State) (n m : ℕ) (a b : I) (ss ts all : List State) → 0 < n → m ≡ n - 1 → ts ≡ advanced next ss a b → repeated next n a b ss ≡ all → repeated next m a b ts ≡ all

@@ -11,7 +11,7 @@ use Rattle.interface.specs.declared.answers.Refusal.{Refusal}
 use Rattle.interface.specs.declared.answers.Refusal.the-variants.{OutOfReach}
 use Rattle.interface.specs.Games.{State}
 use Rattle.interface.specs.Keepers.{advanced, replayed}
-use Rattle.interface.specs.Limits.{most-lead, most-listed}
+use Rattle.interface.specs.Limits.{most-listed}
 
 -- accepted where more states are listed than frames are gone back, else 15
 abbrev pub redo-answer : ℕ → List State → Result (Unit {0}) Refusal
@@ -24,7 +24,7 @@ redone next inputs ss = cond (ltb (length inputs) (length ss)) (replayed next (d
 -- where the last frames, eight at most, had these very inputs, nothing changes
 abbrev pub Same-again : {I : Type 0} → (State → I → I → State) → List (I × I) → List State → Result (Unit {0}) Refusal → List State → Type 0
 Same-again next inputs ss answer after =
-    (before : List State) → 0 < length before → length before ≤ most-listed → length inputs ≤ most-lead → ss ≡ replayed next before inputs → (answer ≡ Ok tt) × (after ≡ ss)
+    (before : List State) → 0 < length before → length before ≤ most-listed → length inputs < most-listed → ss ≡ replayed next before inputs → (answer ≡ Ok tt) × (after ≡ ss)
 
 -- n frames with one pair of inputs
 abbrev pub repeated : {I : Type 0} → (State → I → I → State) → ℕ → I → I → List State → List State

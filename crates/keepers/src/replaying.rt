@@ -1,7 +1,9 @@
 // Going back and stepping ahead again, with any keeper.
 ghost use mathlib.Core.Path.{_≡_};
+ghost use mathlib.Core.Bool.{false};
 ghost use Prim.Native.Nat.{_<_, _-_};
 ghost use lib.ListN.{length};
+ghost use Rattle.std.specs.Results.{isOk};
 ghost use Rattle.interface.specs.Keepers.{advanced};
 ghost use Rattle.keepers.specs.Replaying.{redo-answer, redone, repeated, Same-again};
 use interface::answers::Refusal;
@@ -27,6 +29,7 @@ pub fn go_back_and_replay<G: Game, K: Keeper<G>>(
 ) -> Result<(), Refusal>
     ensures answer { λ r. ⌜ r ≡ redo-answer (length (now (inputs .entry))) (K·Keeper .kept (now (keeper .entry)) .states) ⌝ }
     ensures states { λ _. ⌜ K·Keeper .kept (now (keeper .exit)) .states ≡ redone (G·Game .next) (now (inputs .entry)) (K·Keeper .kept (now (keeper .entry)) .states) ⌝ }
+    ensures same { λ r. ⌜ (isOk r ≡ false → now (keeper .exit) ≡ now (keeper .entry)) ⌝ }
     ensures again { λ r. ⌜ Same-again (G·Game .next) (now (inputs .entry)) (K·Keeper .kept (now (keeper .entry)) .states) r (K·Keeper .kept (now (keeper .exit)) .states) ⌝ }
 {
     let Ok(frames) = u32::try_from(inputs.len()) else {

@@ -17,6 +17,7 @@ use Rattle.speed.specs.Moves.{slot-number, pile-number, calls}
 use Rattle.speed.specs.Places.{slot-at, top-at, at, draws, sides, parity}
 use Rattle.speed.specs.Rules.{fits, playable, played, moved, both-moved, turns, turned, sides-turned, flipped, over, next-state}
 use Rattle.speed.specs.Laws.{run, Kept}
+use Rattle.speed.proofs.Ends.{over-from}
 use Rattle.speed.proofs.Sound.{Sound, draws-le, sides-le, parity-le}
 use Rattle.speed.proofs.Keeps.{Follows, still, then, sound-after, play-follows, turn-follows, flip-follows}
 
@@ -138,4 +139,4 @@ run-ended (moves ∷ later) w ended =
 pub run-kept : (later : List (Move × Move)) (w : State) → Sound w → Kept w (run w later)
 run-kept later w s =
     let p = run-follows later w s in
-    record { same-order = p .order; no-new-card = p .fewer; draws-fall = p .draws-fall; sides-fall = p .sides-fall; ended = run-ended later w }
+    record { same-order = p .order; no-new-card = p .fewer; draws-fall = p .draws-fall; sides-fall = p .sides-fall; ended = λ seat h none. run-ended later w (over-from w (s .wide) seat h none) }

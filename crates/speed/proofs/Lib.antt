@@ -1,6 +1,7 @@
 pub mod Backs
 pub mod Counts
 pub mod Deals
+pub mod Ends
 pub mod Frames
 pub mod Keeps
 pub mod Packs

@@ -1,19 +1,19 @@
 // The game of Speed: its state and its calls.
 ghost use mathlib.Core.Path.{_≡_};
-ghost use mathlib.Core.Bool.{true, false};
+ghost use mathlib.Core.Bool.{true};
 ghost use mathlib.Core.List.{List};
 ghost use Prim.Native.Nat.{ℕ, _-_, _<_};
-ghost use lib.ListN.{length};
+ghost use lib.ListN.{length, take};
 ghost use Rattle.std.specs.declared.option.Option.the-variants.{Some};
 ghost use Rattle.std.specs.Slices.{found};
 ghost use Rattle.std.specs.shelf.Maps.{nth};
 ghost use Rattle.speed.specs.declared.moves.Move.{Move as SpeedMove};
 ghost use Rattle.speed.specs.Places.{parity};
-ghost use Rattle.speed.specs.Lawful.{times, in-play, lawful-state};
+ghost use Rattle.speed.specs.Lawful.{times, in-play, permutation, lawful-state};
 ghost use Rattle.speed.specs.Opening.{opening-state};
-ghost use Rattle.speed.specs.Rules.{over, next-state};
+ghost use Rattle.speed.specs.Rules.{next-state};
 ghost use Rattle.speed.specs.Trails.{undone-state};
-ghost use Rattle.speed.specs.Laws.{Kept, run};
+ghost use Rattle.speed.specs.Laws.{Goes-on, Kept, run};
 use crate::lawful::is_lawful;
 use crate::lawful::is_playable;
 use crate::moves::Move;
@@ -40,6 +40,7 @@ impl Speed {
     // The opening of a seed. Each card of the pack is in play once.
     pub fn new(seed: u32) -> Self
         ensures opening { λ r. ⌜ r .words ≡ opening-state seed ⌝ }
+        ensures shuffled { λ r. ⌜ permutation (take 52 (r .words)) ≡ true ⌝ }
         ensures whole_pack { λ r. ⌜ ((card : ℕ) → card < 52 → times card (in-play (r .words)) ≡ 1) ⌝ }
     {
         Speed {
@@ -53,7 +54,7 @@ impl Speed {
         ensures state { λ _. ⌜ now (self .exit) .words ≡ next-state (now (self .entry) .words) first second ⌝ }
         ensures trail { λ r. ⌜ undone-state (now (self .exit) .words) r ≡ Some (now (self .entry) .words) ⌝ }
         ensures kept { λ _. ⌜ ((later : List (SpeedMove × SpeedMove)) → Kept (now (self .entry) .words) (run (now (self .exit) .words) later)) ⌝ }
-        ensures alternates { λ _. ⌜ (over (now (self .entry) .words) ≡ false → parity (now (self .exit) .words) ≡ 1 - parity (now (self .entry) .words)) ⌝ }
+        ensures alternates { λ _. ⌜ (Goes-on (now (self .entry) .words) → parity (now (self .exit) .words) ≡ 1 - parity (now (self .entry) .words)) ⌝ }
     {
         play_frame(&mut self.words, first, second)
     }
@@ -117,6 +118,7 @@ fn opening_words(seed: u32) -> Words
     ensures opening { λ r. ⌜ r ≡ opening-state seed ⌝ }
     ensures wide { λ r. ⌜ length r ≡ 68 ⌝ }
     ensures lawful { λ r. ⌜ lawful-state r ≡ true ⌝ }
+    ensures shuffled { λ r. ⌜ permutation (take 52 r) ≡ true ⌝ }
     ensures whole_pack { λ r. ⌜ ((card : ℕ) → card < 52 → times card (in-play r) ≡ 1) ⌝ }
 {
     let order = shuffled_pack(seed);
@@ -130,7 +132,7 @@ fn play_frame(words: &mut Words, first: Move, second: Move) -> Trail
     ensures lawful { λ _. ⌜ lawful-state (now (words .exit)) ≡ true ⌝ }
     ensures trail { λ r. ⌜ undone-state (now (words .exit)) r ≡ Some (now (words .entry)) ⌝ }
     ensures kept { λ _. ⌜ ((later : List (SpeedMove × SpeedMove)) → Kept (now (words .entry)) (run (now (words .exit)) later)) ⌝ }
-    ensures alternates { λ _. ⌜ (over (now (words .entry)) ≡ false → parity (now (words .exit)) ≡ 1 - parity (now (words .entry))) ⌝ }
+    ensures alternates { λ _. ⌜ (Goes-on (now (words .entry)) → parity (now (words .exit)) ≡ 1 - parity (now (words .entry))) ⌝ }
 {
     let trail = record_trail(words, first, second);
     advance(words, first, second);

@@ -74,13 +74,13 @@ fn is_in_range(words: &Words) -> bool
 }
 
 // Whether ranges are kept and no card is in play twice. With an order that is a permutation, the state is lawful.
-pub fn is_playable(words: &Words) -> bool
+pub(crate) fn is_playable(words: &Words) -> bool
     ensures { λ r. ⌜ r ≡ (within limits (drop 52 (now (words .entry))) && none-twice (in-play (now (words .entry)))) ⌝ }
 {
     is_in_range(words) && mark_in_play(words).is_some()
 }
 
-pub fn is_lawful(words: &Words) -> bool
+pub(crate) fn is_lawful(words: &Words) -> bool
     ensures { λ r. ⌜ r ≡ lawful-state (now (words .entry)) ⌝ }
 {
     is_permutation(words) && is_playable(words)

@@ -1,4 +1,4 @@
-// Speed: two seats play cards from their hands onto two piles, as fast as they can. docs/SPEED.md has the rules.
+// Speed: two seats play cards from their hands onto two piles, as fast as they can. docs/GAMES.md has the rules.
 pub mod game;
 mod lawful;
 pub mod moves;

@@ -20,7 +20,7 @@ fn sorted_pack() -> [u32; 52]
 }
 
 // The pack shuffled: each card from the last on is exchanged with one up to it that the generator picks.
-pub fn shuffled_pack(seed: u32) -> [u32; 52]
+pub(crate) fn shuffled_pack(seed: u32) -> [u32; 52]
     ensures order { λ r. ⌜ r ≡ order-of seed ⌝ }
     ensures permutation { λ r. ⌜ permutation r ≡ true ⌝ }
 {
@@ -34,7 +34,7 @@ pub fn shuffled_pack(seed: u32) -> [u32; 52]
 }
 
 // The opening with this order of the pack.
-pub fn deal(order: &[u32; 52]) -> Words
+pub(crate) fn deal(order: &[u32; 52]) -> Words
     ensures { λ r. ⌜ r ≡ dealt (now (order .entry)) ⌝ }
 {
     let mut words = [0; 68];

@@ -129,7 +129,7 @@ fn make_moves(words: &mut Words, first: Move, second: Move)
 }
 
 // One frame.
-pub fn advance(words: &mut Words, first: Move, second: Move)
+pub(crate) fn advance(words: &mut Words, first: Move, second: Move)
     requires { ⌜ lawful-state (now words) ≡ true ⌝ }
     ensures { λ _. ⌜ now (words .exit) ≡ next-state (now (words .entry)) first second ⌝ }
 {

@@ -36,7 +36,7 @@ fn seat_word(words: &Words, seat: usize, choice: Move) -> u32
 }
 
 // The trail that a frame with these moves leaves.
-pub fn record_trail(words: &Words, first: Move, second: Move) -> Trail
+pub(crate) fn record_trail(words: &Words, first: Move, second: Move) -> Trail
     requires { ⌜ lawful-state (now words) ≡ true ⌝ }
     ensures { λ r. ⌜ r ≡ trail-of (now (words .entry)) first second ⌝ }
 {
@@ -56,7 +56,7 @@ fn restore_seat(words: &mut Words, seat: usize, trail: u32)
 }
 
 // Puts back what a trail holds.
-pub fn restore_trail(words: &mut Words, trail: &Trail)
+pub(crate) fn restore_trail(words: &mut Words, trail: &Trail)
     ensures { λ _. ⌜ now (words .exit) ≡ put-back (now (words .entry)) (now (trail .entry)) ⌝ }
 {
     words[SIDES] = trail[2];

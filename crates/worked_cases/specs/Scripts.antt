@@ -1,11 +1,13 @@
 -- What a script of frames and goings back makes of the states that a keeper lists: the same for every keeper.
 use mathlib.Core.Bool.{cond}
 use mathlib.Core.List.{List, [], _∷_}
-use Prim.Native.Nat.{ℕ}
+use mathlib.Core.Path.{_≡_}
+use Prim.Native.Nat.{ℕ, _<_}
 use lib.Dec.{ltb}
 use lib.ListN.{length, drop}
 use Rattle.std.specs.declared.option.Option.{Option}
 use Rattle.std.specs.declared.option.Option.the-variants.{Some, None}
+use Rattle.std.specs.shelf.Maps.{nth}
 use Rattle.interface.specs.Digest.{digest-of}
 use Rattle.interface.specs.Games.{State}
 use Rattle.interface.specs.Keepers.{newest, advanced}
@@ -22,6 +24,10 @@ moved next (Again n a b) ss = cond (ltb n (length ss)) (repeated next n a b (dro
 abbrev pub seen : {I : Type 0} → (State → I → I → State) → Move I → List State → Option ℕ
 seen next (Ahead a b) ss = Some (digest-of (newest (advanced next ss a b)))
 seen next (Again n a b) ss = cond (ltb n (length ss)) (Some (digest-of (newest (drop n ss)))) None
+
+-- the first n words of two states are the same
+abbrev pub Same-front : ℕ → State → State → Type 0
+Same-front n s t = (k : ℕ) → k < n → nth s k ≡ nth t k
 
 -- the states listed after a script, oldest move first
 abbrev pub scripted : {I : Type 0} → (State → I → I → State) → List State → List (Move I) → List State

@@ -51,7 +51,7 @@ mod tests {
         }
     }
 
-    // The first `count` codes of a row that has every byte.
+    // The first `count` codes of codes whose two bytes differ.
     fn some_codes(count: u16) -> Codes {
         let mut codes = Codes::new();
         for k in 0..count {

@@ -98,15 +98,16 @@ fn both_keepers_list_the_same() -> Result<(), Fail> {
         fire: true,
     };
     check(keepers_agree!(Duel, right, up, fire)).note("duel")?;
+    // With this seed cards are played by both seats, and sides are turned.
+    let right = CardMove::Play {
+        slot: Slot::Third,
+        pile: Pile::Right,
+    };
     let left = CardMove::Play {
         slot: Slot::First,
         pile: Pile::Left,
     };
-    let last = CardMove::Play {
-        slot: Slot::Fifth,
-        pile: Pile::Right,
-    };
-    check(keepers_agree!(Speed, left, CardMove::CallTurn, last)).note("speed")
+    check(keepers_agree!(Speed, CardMove::CallTurn, right, left)).note("speed")
 }
 
 // Three frames by hand: total 4 × 1 + 2 × 2 + 1 = 9, 4 × 9 + 1 = 37, 4 × 37 + 2 × 1 = 150.

@@ -2,7 +2,8 @@
 ghost use mathlib.Core.Path.{_≡_};
 ghost use mathlib.Core.Bool.{true};
 ghost use mathlib.Core.List.{_∷_, []};
-ghost use Rattle.worked_cases.specs.Scripts.{moved, seen, scripted};
+ghost use Rattle.worked_cases.specs.Scripts.{moved, seen, scripted, Same-front};
+ghost use Rattle.interface.specs.Keepers.{newest};
 use interface::game::Game;
 use interface::keeper::Keeper;
 use keepers::replaying::pay_off;
@@ -49,7 +50,8 @@ pub fn play_script<G: Game, K: Keeper<G>>(seed: u32, script: &[Move<G::Input>]) 
 
 // Whether the newest states of two keepers have the same words.
 pub fn same_words<G: Game, A: Keeper<G>, B: Keeper<G>>(left: &A, right: &B) -> bool
-    ensures { λ r. ⌜ (A·Keeper .kept (now (left .entry)) .states ≡ B·Keeper .kept (now (right .entry)) .states → r ≡ true) ⌝ }
+    ensures told { λ r. ⌜ (r ≡ true → Same-front (G·Game .width) (newest (A·Keeper .kept (now (left .entry)) .states)) (newest (B·Keeper .kept (now (right .entry)) .states))) ⌝ }
+    ensures found { λ r. ⌜ (A·Keeper .kept (now (left .entry)) .states ≡ B·Keeper .kept (now (right .entry)) .states → r ≡ true) ⌝ }
 {
     for k in 0..G::width() {
         if left.word(k) != right.word(k) {

@@ -101,7 +101,60 @@ mod tests {
         after: &'static [(usize, u32)],
     }
 
-    const CASES: [Case; 14] = [
+    const CASES: [Case; 20] = [
+        Case {
+            name: "over for seat 1's want of cards",
+            before: &[
+                (57, 52),
+                (58, 52),
+                (59, 52),
+                (60, 52),
+                (61, 52),
+                (63, 0),
+                (62, 0),
+                (52, 10),
+            ],
+            codes: (1, 0),
+            after: &[],
+        },
+        Case {
+            name: "an empty hand with cards to draw",
+            before: &[(52, 52), (53, 52), (54, 52), (55, 52), (56, 52)],
+            codes: (0, 3),
+            after: &[(58, 15), (63, 14), (65, 36), (67, 1)],
+        },
+        Case {
+            name: "seat 0 plays its last card, and seat 1 still plays",
+            before: &[
+                (62, 0),
+                (52, 10),
+                (53, 52),
+                (54, 52),
+                (55, 52),
+                (56, 52),
+                (57, 9),
+            ],
+            codes: (1, 1),
+            after: &[(52, 52), (57, 15), (63, 14), (65, 9), (67, 1)],
+        },
+        Case {
+            name: "the last sides",
+            before: &[(64, 1)],
+            codes: (11, 11),
+            after: &[(64, 0), (65, 44), (66, 49), (67, 1)],
+        },
+        Case {
+            name: "seat 1 calls alone",
+            before: &[],
+            codes: (0, 11),
+            after: &[(67, 1)],
+        },
+        Case {
+            name: "seat 0 refills",
+            before: &[(52, 49), (62, 14), (64, 0)],
+            codes: (1, 0),
+            after: &[(52, 1), (62, 13), (65, 49), (67, 1)],
+        },
         Case {
             name: "idle",
             before: &[],
@@ -189,16 +242,17 @@ mod tests {
     ];
 
     // Changes of the dealt pack that make it unlawful.
-    const REFUSED: [(&str, &[(usize, u32)]); 12] = [
+    const REFUSED: [(&str, &[(usize, u32)]); 13] = [
         ("a card twice in the order", &[(0, 1)]),
         ("a card twice in the order, not in play", &[(62, 0), (0, 1)]),
         ("a card 52 in the order", &[(62, 0), (0, 52)]),
         ("a hand card that is undrawn", &[(52, 14)]),
         ("a hand card that is an unturned side", &[(57, 44)]),
+        ("a hand card that is an unturned right side", &[(57, 49)]),
         ("a top that is in a hand", &[(65, 34)]),
         ("a hand card 53", &[(56, 53)]),
         ("draws of seat 0", &[(62, 16)]),
-        ("draws of seat 1", &[(63, 16)]),
+        ("draws of seat 1", &[(62, 0), (63, 16)]),
         ("sides", &[(64, 6)]),
         ("a top 52", &[(66, 52)]),
         ("parity", &[(67, 2)]),
@@ -475,6 +529,20 @@ mod tests {
             check_words(&game, &before).note(case.name)?;
         }
         Ok(())
+    }
+
+    #[test]
+    fn codes_that_read() -> Result<(), Fail> {
+        for code in 0..=300u16 {
+            match MoveInput::read(code) {
+                Some(play) => {
+                    check(code < 12)?;
+                    check_eq(play.code(), code)?;
+                }
+                None => check(code > 11)?,
+            }
+        }
+        check(MoveInput::read(u16::MAX).is_none())
     }
 
     #[test]

@@ -4,10 +4,11 @@ ghost use mathlib.Core.List.{_∷_, []};
 ghost use lib.ListN.{take, drop};
 ghost use Rattle.std.specs.shelf.Maps.{nth};
 ghost use Rattle.keepers.specs.Rings.{items};
+use super::PLACES;
 use super::Ring;
 
-// How many places a ring has: one less than the states that a keeper lists, since the newest lies beside it.
-const PLACES: u32 = 8;
+// The same, to count with.
+const AROUND: u32 = PLACES as u32;
 
 impl<T: Copy> Ring<T> {
     // A ring that holds nothing. Its places are filled with any value.
@@ -15,7 +16,7 @@ impl<T: Copy> Ring<T> {
         ensures { λ r. ⌜ items r ≡ [] ⌝ }
     {
         Ring {
-            places: [filler; 8],
+            places: [filler; PLACES],
             newest: 0,
             count: 0,
         }
@@ -28,15 +29,15 @@ impl<T: Copy> Ring<T> {
         if k >= self.count {
             return None;
         }
-        Some(self.places[((self.newest + k) % PLACES) as usize])
+        Some(self.places[((self.newest + k) % AROUND) as usize])
     }
 
     // One more in front; of nine the oldest goes.
     pub fn push(&mut self, value: T)
         ensures { λ _. ⌜ items (now (self .exit)) ≡ take 8 (value ∷ items (now (self .entry))) ⌝ }
     {
-        self.newest = (self.newest + PLACES - 1) % PLACES;
-        self.count = (self.count + 1).min(PLACES);
+        self.newest = (self.newest + AROUND - 1) % AROUND;
+        self.count = (self.count + 1).min(AROUND);
         self.places[self.newest as usize] = value;
     }
 
@@ -45,7 +46,7 @@ impl<T: Copy> Ring<T> {
         ensures { λ _. ⌜ items (now (self .exit)) ≡ drop n (items (now (self .entry))) ⌝ }
     {
         let gone = n.min(self.count);
-        self.newest = (self.newest + gone) % PLACES;
+        self.newest = (self.newest + gone) % AROUND;
         self.count -= gone;
     }
 }

@@ -23,7 +23,7 @@ returns-in-Break-debt g c =
     let short : length ss ≤ length ps = omega (arith, n, why .1) in
     let answer : c .from-residual .result ≡ redo-answer (length ps) ss = e .1 ∙ ap Err (e .2 ∙ why .0) ∙ sym (redo-refuses (length ps) ss short) in
     let states : g .K·Keeper .kept (c .go-back .last .self) .states ≡ redone next ps ss = back .states ∙ back-keeps (c .in-Ok .frames) ss (why .1) ∙ sym (redone-keeps next ps ss short) in
-    record { answer = answer; states = states; again = same-again next ps ss _ _ answer states }
+    record { answer = answer; states = states; same = λ _. back .same refl; again = same-again next ps ss _ _ answer states }
 
 pub loop-pair-holds : need.loop-pair-holds
 loop-pair-holds g c =
@@ -53,4 +53,4 @@ returns g c =
     let answer = sym (redo-reaches (length ps) ss enough) in
     let states : g .K·Keeper .kept (c .loop-pair .keeper) .states ≡ redone next ps ss =
     replayed-all next _ _ ps (c .loop-pair .pair-index) done (c .loop-pair .inv .1) ∙ ap (λ ts. replayed next ts ps) started ∙ sym (redone-replays next ps ss enough) in
-    record { answer = answer; states = states; again = same-again next ps ss _ _ answer states }
+    record { answer = answer; states = states; same = λ e. grind arith; again = same-again next ps ss _ _ answer states }
