@@ -1,0 +1,16 @@
+pub mod Queues
+pub mod Frames
+pub mod Seats
+pub mod Pressing
+pub mod Datagrams
+pub mod Sending
+pub mod Taking
+pub mod Logging
+pub mod Results
+pub mod Turning
+pub mod Calling
+pub mod Refusing
+pub mod Opening
+pub mod Moments
+pub mod Playing
+pub mod Plays

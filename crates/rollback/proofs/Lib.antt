@@ -1,0 +1,5 @@
+pub mod Puts
+pub mod Steps
+pub mod Sent
+pub mod Fresh
+pub mod Search
