@@ -18,6 +18,7 @@ use interface::limits::QUEUE_SLOTS;
 pub fn openings_stand<I>() -> usize
     ensures stand { λ slots. ⌜ Openings-stand I slots ⌝ }
     ensures play { λ slots. ⌜ Plays-stand I slots ⌝ }
+    ensures answer { λ slots. ⌜ slots ≡ queue-slots ⌝ }
 {
     let slots = QUEUE_SLOTS;
     opening_laws::<I>(slots);
@@ -35,6 +36,7 @@ fn opening_laws<I>(slots: usize)
 pub fn calls_go_on<I>() -> u32
     ensures standing { λ most. ⌜ Calls-go-on I most ⌝ }
     ensures refused { λ _. ⌜ Refusals-keep I ⌝ }
+    ensures answer { λ most. ⌜ most ≡ most-lead ⌝ }
 {
     let deepest = MOST_LEAD;
     call_laws::<I>(deepest);
@@ -53,6 +55,7 @@ pub fn keepers_agree<I>() -> usize
     ensures agree { λ _. ⌜ Runs-agree I ⌝ }
     ensures truth { λ _. ⌜ Lists-the-truth I ⌝ }
     ensures listed { λ most. ⌜ Lists-last I most ⌝ }
+    ensures answer { λ most. ⌜ most ≡ most-listed ⌝ }
 {
     let listed = MOST_LISTED;
     keeper_laws::<I>(listed);
@@ -69,7 +72,8 @@ fn keeper_laws<I>(most: usize)
 // A seat that is not ahead, and has the other's latest datagram, is not refused a press. Answers the frame from which
 // that no longer holds.
 pub fn presses_go_on<I>() -> u32
-    ensures { λ end. ⌜ Presses-go-on I end ⌝ }
+    ensures presses { λ end. ⌜ Presses-go-on I end ⌝ }
+    ensures answer { λ end. ⌜ end ≡ match-length ⌝ }
 {
     let end = MATCH_LENGTH;
     press_laws::<I>(end);

@@ -60,21 +60,24 @@ impl<G: Game, K: Keeper<G>, H: GuessRule<G::Input>> Seat<G, K, H> {
     pub fn played(&self) -> u32
         ensures { λ r. ⌜ r ≡ now (self .entry) .own .next ⌝ }
     {
-        self.own.next()
+        let inputs = &self.own;
+        inputs.next()
     }
 
     // R: the other seat's inputs that are known.
     pub fn known(&self) -> u32
         ensures { λ r. ⌜ r ≡ now (self .entry) .other .next ⌝ }
     {
-        self.other.next()
+        let inputs = &self.other;
+        inputs.next()
     }
 
     // A: the own inputs that are acknowledged.
     pub fn acknowledged(&self) -> u32
         ensures { λ r. ⌜ r ≡ now (self .entry) .acknowledged ⌝ }
     {
-        self.acknowledged
+        let Seat { acknowledged, .. } = self;
+        *acknowledged
     }
 
     // C: states 0 to C are confirmed.
@@ -87,7 +90,8 @@ impl<G: Game, K: Keeper<G>, H: GuessRule<G::Input>> Seat<G, K, H> {
     pub fn has_parted(&self) -> bool
         ensures { λ r. ⌜ r ≡ now (self .entry) .parted ⌝ }
     {
-        self.parted
+        let Seat { parted, .. } = self;
+        *parted
     }
 
     // Word k of the newest state, or nothing past its end.

@@ -12,6 +12,7 @@ pub struct Slots<'a, I> {
     pub digests: &'a mut [u32],
 }
 
+#[derive(Drop)]
 pub struct Seat<G, K, H> {
     // Seat 1, else seat 0.
     pub(crate) second: bool,

@@ -9,4 +9,6 @@ mod keeper_scripts;
 pub mod plain_match;
 #[cfg(test)]
 mod queue_cases;
+#[cfg(test)]
+mod seat_cases;
 pub mod speed_cases;
