@@ -1,4 +1,6 @@
 // The datagram by which one seat tells the other its inputs: written into bytes, and read from them.
+#![tactic(auto)]
+
 mod check;
 pub mod codes;
 pub mod forms;

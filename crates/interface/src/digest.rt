@@ -6,7 +6,7 @@ use crate::game::Game;
 
 // The sum of (2k + 1) × word k, modulo 2^32.
 pub fn digest<G: Game>(game: &G) -> u32
-    ensures { result ≡ digest_of (words game.now) }
+    ensures { result ≡ digest_of (G.words game.now) }
 {
     let mut sum = 0u32;
     let mut k = 0u32;

@@ -1,4 +1,6 @@
 // Tests of a whole match: against the plain match as a program, and with fixed turns.
+#![tactic(auto)]
+
 #[cfg(test)]
 mod calling;
 #[cfg(test)]

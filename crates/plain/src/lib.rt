@@ -3,6 +3,8 @@
 //
 // No program runs this crate. Each public function states laws by its contract, for all states S and inputs I, and answers
 // the number that they speak of.
+#![tactic(auto)]
+
 ghost use Rattle.std.specs.Prelude.{◌≡◌, ◌+◌, ◌≤◌};
 ghost use Rattle.interface.specs.Limits.{match_length, most_lead, most_listed};
 ghost use Rattle.plain.specs.Laws.{CountsHold, CodesWithin, ConfirmedAgree, ListsLast, StatesKept, ReplaysWithin, WelcomeWithin, ReportsAgree, PressesGoOn};

@@ -1,4 +1,6 @@
 // A fresh match, and a whole list of turns made of it.
+#![tactic(auto)]
+
 pub mod playing;
 pub mod step;
 pub mod turns;

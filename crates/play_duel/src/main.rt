@@ -1,4 +1,6 @@
 // Plays a short Duel, takes its last frames back by their trails, and draws the grid.
+#![tactic(auto)]
+
 use duel::board::{Board, Cell};
 use duel::input::DuelInput;
 use duel::state::Duel;

@@ -3,6 +3,8 @@
 //
 // No program runs this crate. Each public function states laws by its contract, for all inputs I, and answers the number that
 // they speak of.
+#![tactic(auto)]
+
 ghost use Rattle.std.specs.Prelude.{◌≡◌, ◌≤◌};
 ghost use Rattle.interface.specs.Limits.{match_length, most_lead, most_listed, queue_slots};
 ghost use Rattle.refine.specs.Laws.{OpeningsStand, CallsGoOn, RefusalsKeep, RunsAgree, ListsTheTruth, ListsLast, PressesGoOn};

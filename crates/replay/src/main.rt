@@ -1,4 +1,6 @@
 // Replays a trace: standard input to the report on standard output.
+#![tactic(auto)]
+
 use report::program::{MOST_BYTES, answer};
 use std::io;
 use std::io::{Read, Write};

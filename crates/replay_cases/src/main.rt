@@ -1,4 +1,6 @@
 // Replays each trace of data/list.txt, and compares with the report that it must give, which tools/replay_trace.py worked out.
+#![tactic(auto)]
+
 use report::program::answer;
 use std::{fs, io};
 

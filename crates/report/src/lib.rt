@@ -1,4 +1,6 @@
 // The replay of a trace: from its text to a report.
+#![tactic(auto)]
+
 pub mod ends;
 mod games;
 pub mod program;

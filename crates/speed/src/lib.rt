@@ -1,4 +1,6 @@
 // Speed: two seats play cards from their hands onto two piles, as fast as they can. docs/GAMES.md has the rules.
+#![tactic(auto)]
+
 pub mod game;
 mod lawful;
 pub mod moves;

@@ -1,4 +1,6 @@
 // The text of a match trace: read into its first line and turns, and written from them.
+#![tactic(auto)]
+
 pub mod forms;
 mod line;
 mod number;

@@ -1,5 +1,7 @@
 // Worked cases of the rules: those that are computed from the definitions in a contract, theorems over whole scripts, and
 // tests that run the code.
+#![tactic(auto)]
+
 mod counter_game;
 pub mod datagrams;
 pub mod duel_cases;

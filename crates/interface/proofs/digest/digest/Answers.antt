@@ -16,4 +16,4 @@ loop-word-preserved g c =
     (omega arith, omega arith, digest_more ws _ _ _ _ read c.loop-word.invariant.2)
 
 pub returns : goal.returns
-returns g c = digest_all (g.G.Game.words c.args.game.now) _ _ c.loop-word.invariant.1 (sym c.in-default.ensures) c.loop-word.invariant.2
+returns g c = digest_all (g.G.Game.words c.args.game.now) _ _ c.loop-word.invariant.1 (sym c.in_default.ensures) c.loop-word.invariant.2
