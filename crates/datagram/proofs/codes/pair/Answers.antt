@@ -10,4 +10,4 @@ returns-then-k-bytes c =
     sym (slice_get_past (codes_of c.args.bytes.now) c.args.k (omega arith))
 
 pub returns : goal.returns
-returns c = ap Some c.from-le-bytes.ensures ∙ sym (nth_codes_of c.args.bytes.now c.args.k (omega arith))
+returns c = ap Some c.from_le_bytes.ensures ∙ sym (nth_codes_of c.args.bytes.now c.args.k (omega arith))

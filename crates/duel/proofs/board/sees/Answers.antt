@@ -6,8 +6,8 @@ use Rattle.duel.proofs.board.sees.Goals as goal
 pub loop-init : goal.loop-init
 loop-init c = (c.requires, refl)
 
-pub returns-in-default : goal.returns-in-default
-returns-in-default c = sees_edge _ _ _ _ _ _ c.loop-test.true c.loop.invariant.1 c.in-default.ensures
+pub returns-in_default : goal.returns-in_default
+returns-in_default c = sees_edge _ _ _ _ _ _ c.loop-test.true c.loop.invariant.1 c.in_default.ensures
 
 pub returns-then-same : goal.returns-then-same
 returns-then-same c = sees_target _ _ _ _ _ _ _ c.loop-test.true c.loop.invariant.1 c.in-Some.ensures (sym c.if-same.ensures)

@@ -9,7 +9,7 @@ use Rattle.speed.proofs.game.opening_words.Goals as goal
 pub returns : goal.returns
 unfolding opening_state lawful_state
 returns c =
-    let is = c.deal.ensures ∙ ap dealt c.shuffled-pack-order.ensures.order in
+    let is = c.deal.ensures ∙ ap dealt c.shuffled_pack-order.ensures.order in
     let s = opening_sound c.args.seed in
     record {
       opening = is;

@@ -22,7 +22,7 @@ returns c =
       state = is;
       wide = ap length is ∙ after.wide;
       lawful = ap lawful_state is ∙ lawful_from _ after;
-      trail = ap (λ v. undone_state v c.record-trail-trail.result) is ∙ (ap (undone_state (next_state w first second)) c.record-trail-trail.ensures ∙ undone_frame w s first second);
+      trail = ap (λ v. undone_state v c.record_trail-trail.result) is ∙ (ap (undone_state (next_state w first second)) c.record_trail-trail.ensures ∙ undone_frame w s first second);
       kept = λ later. subst (λ v. Kept w (run v later)) (sym is) (run_kept ((first, second) ∷ later) w s);
       alternates = λ goes_on. ap parity is ∙ frame_alternates w s first second (goes_on_from w s.wide goes_on);
     }

@@ -3,8 +3,8 @@ use Rattle.std.proofs.lemmas.List.{length-append}
 use Rattle.speed.proofs.Deals.{deal_is}
 use Rattle.speed.proofs.pack.deal.Goals as goal
 
-pub slice-bounds-words-end-2 : goal.slice-bounds-words-end-2
-slice-bounds-words-end-2 c = let e = c.copy-from-slice.ensures.len in simp length-append (omega arith)
+pub slice_bounds-words-end-2 : goal.slice_bounds-words-end-2
+slice_bounds-words-end-2 c = let e = c.copy_from_slice.ensures.len in simp length-append (omega arith)
 
 pub returns : goal.returns
-returns c = deal_is c.args.order.now _ _ (omega arith) c.copy-from-slice.ensures.after c.copy-from-slice-2.ensures.after
+returns c = deal_is c.args.order.now _ _ (omega arith) c.copy_from_slice.ensures.after c.copy_from_slice-2.ensures.after

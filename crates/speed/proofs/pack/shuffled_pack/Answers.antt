@@ -7,7 +7,7 @@ use Rattle.speed.proofs.pack.shuffled_pack.Goals as goal
 pub loop-i-init : goal.loop-i-init
 unfolding order_of
 loop-i-init c =
-    (ap length c.sorted-pack-order.ensures ∙ pack_long, ap (shuffled_from 51 c.args.seed) c.sorted-pack-order.ensures)
+    (ap length c.sorted_pack-order.ensures ∙ pack_long, ap (shuffled_from 51 c.args.seed) c.sorted_pack-order.ensures)
 
 pub loop-i-preserved : goal.loop-i-preserved
 loop-i-preserved c =

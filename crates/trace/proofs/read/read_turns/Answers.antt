@@ -8,7 +8,7 @@ pub loop-turn-preserved : goal.loop-turn-preserved
 loop-turn-preserved c =
     let was = vec_items c.loop-turn.turns in
     let t = c.in-Ok-Some.turn in
-    let items = c.in-ok-push.ensures.items in
+    let items = c.in_ok-push-in-Ok-Some.ensures.items in
     let r = ahead c.loop-turn.reader in
     let next = c.next.ensures in
     let said = c.in-Ok-Some.ensures.answer in

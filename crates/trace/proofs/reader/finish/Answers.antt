@@ -5,15 +5,15 @@ use Rattle.trace.specs.Reading.{stopped}
 use Rattle.trace.proofs.Readings.{nothing_after, something_after}
 use Rattle.trace.proofs.reader.finish.Goals as goal
 
-pub returns-then-is-empty : goal.returns-then-is-empty
-returns-then-is-empty c =
+pub returns-then-is_empty : goal.returns-then-is_empty
+returns-then-is_empty c =
     let r = c.args.rest in
-    let none : length r.bytes.now ≡ 0 = eqb-true (length r.bytes.now) 0 (sym c.is-empty.ensures ∙ c.if-is-empty.true) in
+    let none : length r.bytes.now ≡ 0 = eqb-true (length r.bytes.now) 0 (sym c.is_empty.ensures ∙ c.if-is_empty.true) in
     sym (ap answer_of (nothing_after c.args.line r.at r.bytes.now none))
 
 pub returns : goal.returns
 returns c =
     let r = c.args.rest in
-    let some : 0 < length r.bytes.now = omega (arith, eqb-false (length r.bytes.now) 0 (sym c.is-empty.ensures ∙ c.if-is-empty.false)) in
+    let some : 0 < length r.bytes.now = omega (arith, eqb-false (length r.bytes.now) 0 (sym c.is_empty.ensures ∙ c.if-is_empty.false)) in
     let whole = something_after c.args.line r c.split.result.0 c.split.result.1 c.split.ensures.pieces c.split.ensures.rest some in
     ap (λ why. answer_of (stopped why c.args.line c.split.result.0.at)) c.out_of_place.ensures ∙ sym (ap answer_of whole)

@@ -6,6 +6,6 @@ use Rattle.trace.proofs.write.write.Goals as goal
 
 pub returns : goal.returns
 returns c = record {
-  text = c.write-lines.ensures.text;
-  reads = made_both c.write-lines.result c.write-lines.ensures.text c.write-lines.ensures.fits (λ v e fits. ap read_text e ∙ written_reads c.args.first c.args.turns.now fits.0 fits.1);
+  text = c.write_lines.ensures.text;
+  reads = made_both c.write_lines.result c.write_lines.ensures.text c.write_lines.ensures.fits (λ v e fits. ap read_text e ∙ written_reads c.args.first c.args.turns.now fits.0 fits.1);
 }

@@ -10,13 +10,13 @@ pub returns : goal.returns
 returns c =
     let d = fields_of c.args.self.now in
     let old = c.args.buffer.now in
-    let same = c.as-slice-codes.ensures.codes in
-    let count = c.as-slice-codes.ensures.size in
+    let same = c.as_slice-codes.ensures.codes in
+    let count = c.as_slice-codes.ensures.size in
     let first = c.put.ensures ∙ ap (spliced old 0) c.header.ensures.bytes in
-    let second = c.put-codes.ensures.bytes ∙ ap (λ cs. spliced c.put.new.buffer 19 (code_bytes cs)) same in
-    let third = c.put-2.ensures ∙ ap (spliced c.put-codes.new.buffer (19 + 2 * length c.as-slice-codes.result.now)) (c.two-bytes.ensures.bytes ∙ ap two_bytes c.check-word-word.ensures) in
+    let second = c.put_codes.ensures.bytes ∙ ap (λ cs. spliced c.put.new.buffer 19 (code_bytes cs)) same in
+    let third = c.put-2.ensures ∙ ap (spliced c.put_codes.new.buffer (19 + 2 * length c.as_slice-codes.result.now)) (c.two_bytes.ensures.bytes ∙ ap two_bytes c.check_word-word.ensures) in
     let whole = all_put d old _ _ _ _ _ (ap (λ n. 19 + 2 * n) count) first second (search rules) third in
     record {
       bytes = whole;
-      readable = put_readable d old _ (λ seat. record { sender = seat; numbers = c.header.ensures.fits; few = omega arith; codes = subst (All (λ n. n < 2 ^ 16)) same c.put-codes.ensures.fits }) whole;
+      readable = put_readable d old _ (λ seat. record { sender = seat; numbers = c.header.ensures.fits; few = omega arith; codes = subst (All (λ n. n < 2 ^ 16)) same c.put_codes.ensures.fits }) whole;
     }

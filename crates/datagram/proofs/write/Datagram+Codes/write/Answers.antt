@@ -9,6 +9,6 @@ returns c =
     let size = c.length-length.ensures.all in
     record {
       answer = put_answer d c.args.buffer.now (omega arith) _ size;
-      bytes = put_leaves d c.args.buffer.now (omega arith) _ c.put-all.ensures.bytes;
-      readable = c.put-all.ensures.readable;
+      bytes = put_leaves d c.args.buffer.now (omega arith) _ c.put_all.ensures.bytes;
+      readable = c.put_all.ensures.readable;
     }

@@ -5,10 +5,10 @@ use Rattle.duel.proofs.Frames.{played_sound, framed}
 use Rattle.duel.specs.Moves.{sound_from, sound_test}
 use Rattle.duel.proofs.state.Duel.advance.Goals as goal
 
-pub invariant-of-self : goal.invariant-of-self
-invariant-of-self c =
+pub invariant_of-self : goal.invariant_of-self
+invariant_of-self c =
     let b = c.args.self.now.board in
-    (subst (λ a. sound a ≡ true) (sym c.play-self.ensures) (sound_test _ (played_sound b (sound_from b c.args.self.now.lawful) c.args.first c.args.second)), tt)
+    record { lawful = subst (λ a. sound a ≡ true) (sym c.play-self.ensures) (sound_test _ (played_sound b (sound_from b c.args.self.now.lawful) c.args.first c.args.second)) }
 
 pub returns : goal.returns
 returns c =

@@ -6,11 +6,11 @@ use Rattle.trace.specs.Ahead.{answer_of, left_of}
 use Rattle.trace.proofs.Readings.{line_read, sound_next, line_fits, end_stays}
 use Rattle.trace.proofs.reader.Reader.next.Goals as goal
 
-pub overflow-add-self : goal.overflow-add-self
-overflow-add-self c = let h = line_fits (record { rest = c.in-Some.rest; line = c.args.self.now.line + 1 }) (sound_next c.args.self.now c.split.result.0 c.in-Some.rest c.split.result.1 c.requires c.split.ensures.pieces c.split.ensures.rest c.in-Some.is) in omega arith
+pub overflow_add-self : goal.overflow_add-self
+overflow_add-self c = let h = line_fits (record { rest = c.in-Some.rest; line = c.args.self.now.line + 1 }) (sound_next c.args.self.now c.split.result.0 c.in-Some.rest c.split.result.1 c.requires c.split.ensures.pieces c.split.ensures.rest c.in-Some.is) in omega arith
 
-pub overflow-add-self-in-End : goal.overflow-add-self-in-End
-overflow-add-self-in-End c = let h = line_fits (record { rest = c.in-Some.rest; line = c.args.self.now.line + 1 }) (sound_next c.args.self.now c.split.result.0 c.in-Some.rest c.split.result.1 c.requires c.split.ensures.pieces c.split.ensures.rest c.in-Some.is) in omega arith
+pub overflow_add-self-in-End : goal.overflow_add-self-in-End
+overflow_add-self-in-End c = let h = line_fits (record { rest = c.in-Some.rest; line = c.args.self.now.line + 1 }) (sound_next c.args.self.now c.split.result.0 c.in-Some.rest c.split.result.1 c.requires c.split.ensures.pieces c.split.ensures.rest c.in-Some.is) in omega arith
 
 pub returns-in-Turn : goal.returns-in-Turn
 returns-in-Turn c =
