@@ -10,7 +10,7 @@ use Rattle.play.proofs.playing.play.Goals as goal
 pub returns : goal.returns
 returns g c =
     let opening = g.G.Game.opening c.args.seed in
-    let a = setup opening g.G.Game.next g.Input.InputKind.idle g.Input.InputKind.reads g.Input.InputKind.code g.H0.GuessRule.guessed g.H1.GuessRule.guessed in
+    let a = setup opening g.G.Game.next g.G.Input.InputKind.idle g.G.Input.InputKind.reads g.G.Input.InputKind.code g.H0.GuessRule.guessed g.H1.GuessRule.guessed in
     let x = slot_lists c.args.first.own.now c.args.first.other.now c.args.first.digests.now in
     let y = slot_lists c.args.second.own.now c.args.second.other.now c.args.second.digests.now in
     let n = c.args.match_number in

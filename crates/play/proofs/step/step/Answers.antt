@@ -11,12 +11,12 @@ pub returns-then-second : goal.returns-then-second
 returns-then-second g c =
     record {
       leaves = λ opening.
-          let a = setup opening g.G.Game.next g.Input.InputKind.idle g.Input.InputKind.reads g.Input.InputKind.code g.H0.GuessRule.guessed g.H1.GuessRule.guessed in
+          let a = setup opening g.G.Game.next g.G.Input.InputKind.idle g.G.Input.InputKind.reads g.G.Input.InputKind.code g.H0.GuessRule.guessed g.H1.GuessRule.guessed in
           let t = step_of c.args.turn in
           let rest = slot_lists c.args.own-0.now c.args.other-0.now c.args.digests-0.now in
           step_leaves g.K0.Keeper.kept g.K1.Keeper.kept a c.args.game.now c.make-turn-code.new.game t (slot_lists c.args.own-1.now c.args.other-1.now c.args.digests-1.now) (slot_lists c.make-turn-code.new.own c.make-turn-code.new.other c.make-turn-code.new.digests) rest (entries c.args.log.now) (entries c.make-turn-code.new.log) true (eq-eqb c.args.turn.seat 1 c.if-second.true) (c.make-turn-code.ensures.leaves opening rest);
       told = λ opening.
-          let a = setup opening g.G.Game.next g.Input.InputKind.idle g.Input.InputKind.reads g.Input.InputKind.code g.H0.GuessRule.guessed g.H1.GuessRule.guessed in
+          let a = setup opening g.G.Game.next g.G.Input.InputKind.idle g.G.Input.InputKind.reads g.G.Input.InputKind.code g.H0.GuessRule.guessed g.H1.GuessRule.guessed in
           let t = step_of c.args.turn in
           let rest = slot_lists c.args.own-0.now c.args.other-0.now c.args.digests-0.now in
           step_told g.K0.Keeper.kept g.K1.Keeper.kept a c.args.game.now c.make-turn-code.new.game t (slot_lists c.args.own-1.now c.args.other-1.now c.args.digests-1.now) (slot_lists c.make-turn-code.new.own c.make-turn-code.new.other c.make-turn-code.new.digests) rest (entries c.args.log.now) (entries c.make-turn-code.new.log) true (eq-eqb c.args.turn.seat 1 c.if-second.true) c.make-turn-code.result.0 c.make-turn-code.result.1 c.played.result c.known.result (step_leaves g.K0.Keeper.kept g.K1.Keeper.kept a c.args.game.now c.make-turn-code.new.game t (slot_lists c.args.own-1.now c.args.other-1.now c.args.digests-1.now) (slot_lists c.make-turn-code.new.own c.make-turn-code.new.other c.make-turn-code.new.digests) rest (entries c.args.log.now) (entries c.make-turn-code.new.log) true (eq-eqb c.args.turn.seat 1 c.if-second.true) (c.make-turn-code.ensures.leaves opening rest)) (c.make-turn-code.ensures.answers opening rest) c.played.ensures c.known.ensures;
@@ -26,12 +26,12 @@ pub returns : goal.returns
 returns g c =
     record {
       leaves = λ opening.
-          let a = setup opening g.G.Game.next g.Input.InputKind.idle g.Input.InputKind.reads g.Input.InputKind.code g.H0.GuessRule.guessed g.H1.GuessRule.guessed in
+          let a = setup opening g.G.Game.next g.G.Input.InputKind.idle g.G.Input.InputKind.reads g.G.Input.InputKind.code g.H0.GuessRule.guessed g.H1.GuessRule.guessed in
           let t = step_of c.args.turn in
           let rest = slot_lists c.args.own-1.now c.args.other-1.now c.args.digests-1.now in
           step_leaves g.K0.Keeper.kept g.K1.Keeper.kept a c.args.game.now c.make-turn-code-2.new.game t (slot_lists c.args.own-0.now c.args.other-0.now c.args.digests-0.now) (slot_lists c.make-turn-code-2.new.own c.make-turn-code-2.new.other c.make-turn-code-2.new.digests) rest (entries c.args.log.now) (entries c.make-turn-code-2.new.log) false (ne_eqb c.args.turn.seat 1 c.if-second.false) (c.make-turn-code-2.ensures.leaves opening rest);
       told = λ opening.
-          let a = setup opening g.G.Game.next g.Input.InputKind.idle g.Input.InputKind.reads g.Input.InputKind.code g.H0.GuessRule.guessed g.H1.GuessRule.guessed in
+          let a = setup opening g.G.Game.next g.G.Input.InputKind.idle g.G.Input.InputKind.reads g.G.Input.InputKind.code g.H0.GuessRule.guessed g.H1.GuessRule.guessed in
           let t = step_of c.args.turn in
           let rest = slot_lists c.args.own-1.now c.args.other-1.now c.args.digests-1.now in
           step_told g.K0.Keeper.kept g.K1.Keeper.kept a c.args.game.now c.make-turn-code-2.new.game t (slot_lists c.args.own-0.now c.args.other-0.now c.args.digests-0.now) (slot_lists c.make-turn-code-2.new.own c.make-turn-code-2.new.other c.make-turn-code-2.new.digests) rest (entries c.args.log.now) (entries c.make-turn-code-2.new.log) false (ne_eqb c.args.turn.seat 1 c.if-second.false) c.make-turn-code-2.result.0 c.make-turn-code-2.result.1 c.played-2.result c.known-2.result (step_leaves g.K0.Keeper.kept g.K1.Keeper.kept a c.args.game.now c.make-turn-code-2.new.game t (slot_lists c.args.own-0.now c.args.other-0.now c.args.digests-0.now) (slot_lists c.make-turn-code-2.new.own c.make-turn-code-2.new.other c.make-turn-code-2.new.digests) rest (entries c.args.log.now) (entries c.make-turn-code-2.new.log) false (ne_eqb c.args.turn.seat 1 c.if-second.false) (c.make-turn-code-2.ensures.leaves opening rest)) (c.make-turn-code-2.ensures.answers opening rest) c.played-2.ensures c.known-2.ensures;

@@ -16,7 +16,7 @@ rerun-requires g c =
 
 pub returns : goal.returns
 returns g c =
-    let a = setup (g.G.Game.opening c.args.first.seed) g.G.Game.next g.Input.InputKind.idle g.Input.InputKind.reads g.Input.InputKind.code g.H0.GuessRule.guessed g.H1.GuessRule.guessed in
+    let a = setup (g.G.Game.opening c.args.first.seed) g.G.Game.next g.G.Input.InputKind.idle g.G.Input.InputKind.reads g.G.Input.InputKind.code g.H0.GuessRule.guessed g.H1.GuessRule.guessed in
     let is = c.deref.ensures.value ∙ c.in-ok-lent.ensures in
     record {
       told = replay_told (rules a) (length c.args.log.now) c.args.turns.now c.deref.result.now c.in-ok-lines.lines c.rerun.new.told c.rerun.result is (c.rerun.auto.told ∙ c.deref-mut.ensures.len) c.in-ok-lines.ensures.len c.rerun.ensures.told;

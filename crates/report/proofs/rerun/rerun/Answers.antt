@@ -8,7 +8,7 @@ use Rattle.report.proofs.rerun.rerun.Goals as goal
 
 pub returns : goal.returns
 returns g c =
-    let a = setup (g.G.Game.opening c.args.seed) g.G.Game.next g.Input.InputKind.idle g.Input.InputKind.reads g.Input.InputKind.code g.H0.GuessRule.guessed g.H1.GuessRule.guessed in
+    let a = setup (g.G.Game.opening c.args.seed) g.G.Game.next g.G.Input.InputKind.idle g.G.Input.InputKind.reads g.G.Input.InputKind.code g.H0.GuessRule.guessed g.H1.GuessRule.guessed in
     let x = slot_lists c.args.own-0.now c.args.other-0.now c.args.digests-0.now in
     let y = slot_lists c.args.own-1.now c.args.other-1.now c.args.digests-1.now in
     record {

@@ -4,10 +4,10 @@ use Rattle.datagram.specs.Reading.{codes_of}
 use Rattle.rollback.proofs.Sent.{sent_none, sent_some}
 use Rattle.rollback.proofs.news.sent_at.Goals as goal
 
-pub returns-in-default : goal.returns-in-default
-returns-in-default g c =
+pub returns-in_default : goal.returns-in_default
+returns-in_default g c =
     let d = c.args.datagram.now in
-    let told = c.in-default.ensures in
+    let told = c.in_default.ensures in
     let there : slice_get (codes_of d.codes.now) (c.args.frame - d.start) ≡ None = cc in
     c.idle.ensures ∙ sym (sent_none g.I.InputKind.reads g.I.InputKind.idle (codes_of d.codes.now) (c.args.frame - d.start) g.met.I.InputKind.idle_reads there)
 

@@ -6,7 +6,7 @@ use Rattle.rollback.proofs.replaying.pay_off.Given as goal
 
 abbrev pub invariant-loop-keeper : goal.invariant-loop-keeper
 invariant-loop-keeper g l =
-    let s = setting g.G.Game.next g.Input.InputKind.idle g.Input.InputKind.reads g.Input.InputKind.code g.H.GuessRule.guessed in
+    let s = setting g.G.Game.next g.G.Input.InputKind.idle g.G.Input.InputKind.reads g.G.Input.InputKind.code g.H.GuessRule.guessed in
     let kept = g.K.Keeper.kept in
     Owing s l.second (inputs_of l.inputs) l.initial.frame l.initial.debt.owed l.initial.digests.next
     (frames_from s l.second (inputs_of l.inputs) l.initial.frame l.initial.debt.owed (kept_states (kept l.initial.keeper).states l.initial.slots))

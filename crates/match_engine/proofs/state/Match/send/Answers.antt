@@ -11,7 +11,7 @@ use Rattle.match_engine.proofs.state.Match.send.Goals as goal
 
 pub returns-then-seat-gt1 : goal.returns-then-seat-gt1
 returns-then-seat-gt1 g c opening rest =
-    let a = setup opening g.G.Game.next g.Input.InputKind.idle g.Input.InputKind.reads g.Input.InputKind.code g.H0.GuessRule.guessed g.H1.GuessRule.guessed in
+    let a = setup opening g.G.Game.next g.G.Input.InputKind.idle g.G.Input.InputKind.reads g.G.Input.InputKind.code g.H0.GuessRule.guessed g.H1.GuessRule.guessed in
     let lent = slot_lists c.args.slots.own.now c.args.slots.other.now c.args.slots.digests.now in
     let m = c.args.self.now in
     let n = c.args.seat in
@@ -21,7 +21,7 @@ returns-then-seat-gt1 g c opening rest =
 
 pub returns-then-not-are-slots : goal.returns-then-not-are-slots
 returns-then-not-are-slots g c opening rest =
-    let a = setup opening g.G.Game.next g.Input.InputKind.idle g.Input.InputKind.reads g.Input.InputKind.code g.H0.GuessRule.guessed g.H1.GuessRule.guessed in
+    let a = setup opening g.G.Game.next g.G.Input.InputKind.idle g.G.Input.InputKind.reads g.G.Input.InputKind.code g.H0.GuessRule.guessed g.H1.GuessRule.guessed in
     let lent = slot_lists c.args.slots.own.now c.args.slots.other.now c.args.slots.digests.now in
     let m = c.args.self.now in
     let n = c.args.seat in
@@ -31,7 +31,7 @@ returns-then-not-are-slots g c opening rest =
 
 pub returns-then-self-log : goal.returns-then-self-log
 returns-then-self-log g c opening rest =
-    let a = setup opening g.G.Game.next g.Input.InputKind.idle g.Input.InputKind.reads g.Input.InputKind.code g.H0.GuessRule.guessed g.H1.GuessRule.guessed in
+    let a = setup opening g.G.Game.next g.G.Input.InputKind.idle g.G.Input.InputKind.reads g.G.Input.InputKind.code g.H0.GuessRule.guessed g.H1.GuessRule.guessed in
     let lent = slot_lists c.args.slots.own.now c.args.slots.other.now c.args.slots.digests.now in
     let m = c.args.self.now in
     let n = c.args.seat in
@@ -41,7 +41,7 @@ returns-then-self-log g c opening rest =
 
 pub returns-then-code-ne-ACCEPTED : goal.returns-then-code-ne-ACCEPTED
 returns-then-code-ne-ACCEPTED g c opening rest =
-    let a = setup opening g.G.Game.next g.Input.InputKind.idle g.Input.InputKind.reads g.Input.InputKind.code g.H0.GuessRule.guessed g.H1.GuessRule.guessed in
+    let a = setup opening g.G.Game.next g.G.Input.InputKind.idle g.G.Input.InputKind.reads g.G.Input.InputKind.code g.H0.GuessRule.guessed g.H1.GuessRule.guessed in
     let lent = slot_lists c.args.slots.own.now c.args.slots.other.now c.args.slots.digests.now in
     let m = c.args.self.now in
     let n = c.args.seat in
@@ -51,7 +51,7 @@ returns-then-code-ne-ACCEPTED g c opening rest =
 
 pub returns : goal.returns
 returns g c opening rest =
-    let a = setup opening g.G.Game.next g.Input.InputKind.idle g.Input.InputKind.reads g.Input.InputKind.code g.H0.GuessRule.guessed g.H1.GuessRule.guessed in
+    let a = setup opening g.G.Game.next g.G.Input.InputKind.idle g.G.Input.InputKind.reads g.G.Input.InputKind.code g.H0.GuessRule.guessed g.H1.GuessRule.guessed in
     let lent = slot_lists c.args.slots.own.now c.args.slots.other.now c.args.slots.digests.now in
     let m = c.args.self.now in
     let n = c.args.seat in

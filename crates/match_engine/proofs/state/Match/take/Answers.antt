@@ -12,7 +12,7 @@ use Rattle.match_engine.proofs.state.Match.take.Goals as goal
 
 pub returns-then-seat-gt1 : goal.returns-then-seat-gt1
 returns-then-seat-gt1 g c opening rest =
-    let a = setup opening g.G.Game.next g.Input.InputKind.idle g.Input.InputKind.reads g.Input.InputKind.code g.H0.GuessRule.guessed g.H1.GuessRule.guessed in
+    let a = setup opening g.G.Game.next g.G.Input.InputKind.idle g.G.Input.InputKind.reads g.G.Input.InputKind.code g.H0.GuessRule.guessed g.H1.GuessRule.guessed in
     let lent = slot_lists c.args.slots.own.now c.args.slots.other.now c.args.slots.digests.now in
     let m = c.args.self.now in
     let n = c.args.seat in
@@ -22,7 +22,7 @@ returns-then-seat-gt1 g c opening rest =
 
 pub returns-then-not-are-slots : goal.returns-then-not-are-slots
 returns-then-not-are-slots g c opening rest =
-    let a = setup opening g.G.Game.next g.Input.InputKind.idle g.Input.InputKind.reads g.Input.InputKind.code g.H0.GuessRule.guessed g.H1.GuessRule.guessed in
+    let a = setup opening g.G.Game.next g.G.Input.InputKind.idle g.G.Input.InputKind.reads g.G.Input.InputKind.code g.H0.GuessRule.guessed g.H1.GuessRule.guessed in
     let lent = slot_lists c.args.slots.own.now c.args.slots.other.now c.args.slots.digests.now in
     let m = c.args.self.now in
     let n = c.args.seat in
@@ -32,7 +32,7 @@ returns-then-not-are-slots g c opening rest =
 
 pub returns-then-at-log : goal.returns-then-at-log
 returns-then-at-log g c opening rest =
-    let a = setup opening g.G.Game.next g.Input.InputKind.idle g.Input.InputKind.reads g.Input.InputKind.code g.H0.GuessRule.guessed g.H1.GuessRule.guessed in
+    let a = setup opening g.G.Game.next g.G.Input.InputKind.idle g.G.Input.InputKind.reads g.G.Input.InputKind.code g.H0.GuessRule.guessed g.H1.GuessRule.guessed in
     let lent = slot_lists c.args.slots.own.now c.args.slots.other.now c.args.slots.digests.now in
     let m = c.args.self.now in
     let n = c.args.seat in
@@ -48,7 +48,7 @@ returns-then-at-log g c opening rest =
 
 pub returns : goal.returns
 returns g c opening rest =
-    let a = setup opening g.G.Game.next g.Input.InputKind.idle g.Input.InputKind.reads g.Input.InputKind.code g.H0.GuessRule.guessed g.H1.GuessRule.guessed in
+    let a = setup opening g.G.Game.next g.G.Input.InputKind.idle g.G.Input.InputKind.reads g.G.Input.InputKind.code g.H0.GuessRule.guessed g.H1.GuessRule.guessed in
     let lent = slot_lists c.args.slots.own.now c.args.slots.other.now c.args.slots.digests.now in
     let m = c.args.self.now in
     let n = c.args.seat in

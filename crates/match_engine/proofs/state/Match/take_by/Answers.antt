@@ -8,7 +8,7 @@ use Rattle.match_engine.proofs.state.Match.take_by.Goals as goal
 
 pub returns-then-second : goal.returns-then-second
 returns-then-second g c =
-    let r = (λ (s : Bool). setting g.G.Game.next g.Input.InputKind.idle g.Input.InputKind.reads g.Input.InputKind.code (cond s g.H1.GuessRule.guessed g.H0.GuessRule.guessed)) in
+    let r = (λ (s : Bool). setting g.G.Game.next g.G.Input.InputKind.idle g.G.Input.InputKind.reads g.G.Input.InputKind.code (cond s g.H1.GuessRule.guessed g.H0.GuessRule.guessed)) in
     let lent = slot_lists c.args.slots.own.now c.args.slots.other.now c.args.slots.digests.now in
     let e = c.if-second.true in
     let m = c.args.self.now in
@@ -21,7 +21,7 @@ returns-then-second g c =
 
 pub returns : goal.returns
 returns g c =
-    let r = (λ (s : Bool). setting g.G.Game.next g.Input.InputKind.idle g.Input.InputKind.reads g.Input.InputKind.code (cond s g.H1.GuessRule.guessed g.H0.GuessRule.guessed)) in
+    let r = (λ (s : Bool). setting g.G.Game.next g.G.Input.InputKind.idle g.G.Input.InputKind.reads g.G.Input.InputKind.code (cond s g.H1.GuessRule.guessed g.H0.GuessRule.guessed)) in
     let lent = slot_lists c.args.slots.own.now c.args.slots.other.now c.args.slots.digests.now in
     let e = c.if-second.false in
     let m = c.args.self.now in

@@ -14,7 +14,7 @@ use Rattle.seat.proofs.state.Seat.catch_up.Goals as goal
 
 pub returns : goal.returns
 returns g c =
-    let s = setting g.G.Game.next g.Input.InputKind.idle g.Input.InputKind.reads g.Input.InputKind.code g.H.GuessRule.guessed in
+    let s = setting g.G.Game.next g.G.Input.InputKind.idle g.G.Input.InputKind.reads g.G.Input.InputKind.code g.H.GuessRule.guessed in
     let v = view g.K.Keeper.kept c.args.self.now c.args.own.now c.args.other.now c.args.digests.now in
     let d = fields_read c.args.datagram.now in
     let n = c.saturating-sub-frames.result in
@@ -29,7 +29,7 @@ returns g c =
 
 pub returns-in-err-debt : goal.returns-in-err-debt
 returns-in-err-debt g c =
-    let s = setting g.G.Game.next g.Input.InputKind.idle g.Input.InputKind.reads g.Input.InputKind.code g.H.GuessRule.guessed in
+    let s = setting g.G.Game.next g.G.Input.InputKind.idle g.G.Input.InputKind.reads g.G.Input.InputKind.code g.H.GuessRule.guessed in
     let v = view g.K.Keeper.kept c.args.self.now c.args.own.now c.args.other.now c.args.digests.now in
     let d = fields_read c.args.datagram.now in
     let n = c.saturating-sub-frames.result in

@@ -13,7 +13,7 @@ end-of-end-requires g c = (c.in-ok-datagram.ensures.laws.fits (fields_read c.in-
 
 pub returns : goal.returns
 returns g c =
-    let s = setting g.G.Game.next g.Input.InputKind.idle g.Input.InputKind.reads g.Input.InputKind.code g.H.GuessRule.guessed in
+    let s = setting g.G.Game.next g.G.Input.InputKind.idle g.G.Input.InputKind.reads g.G.Input.InputKind.code g.H.GuessRule.guessed in
     let v = view {I = g.row.G-Input.Denot} g.K.Keeper.kept c.args.self.now [] [] [] in
     let d = fields_read c.in-ok-datagram.datagram in
     let told = c.in-ok-datagram.ensures in

@@ -28,5 +28,5 @@ returns g c =
     let may = may_from c.args.own.now s.own.next c.next_frame.result c.requires.own (omega arith) (omega arith) (omega arith) in
     let grown : c.put.new.self.next ≡ s.own.next + 1 = next_one s.own.next c.put.new.self.next c.next_frame.result _ (sym at) may c.put.ensures.next ∙ ap (λ n. n + 1) at in
     let put : c.put.new.slots ≡ set c.args.own.now (s.own.next % 32) c.args.input = c.put.ensures.slots ∙ ap (λ b. slots_after b c.args.own.now c.next_frame.result c.args.input) may ∙ ap (λ n. set c.args.own.now (n % 32) c.args.input) at in
-    pressed_is (setting g.G.Game.next g.Input.InputKind.idle g.Input.InputKind.reads g.Input.InputKind.code g.H.GuessRule.guessed)
+    pressed_is (setting g.G.Game.next g.G.Input.InputKind.idle g.G.Input.InputKind.reads g.G.Input.InputKind.code g.H.GuessRule.guessed)
     (view g.K.Keeper.kept s c.args.own.now c.args.other.now c.args.digests.now) c.args.input c.put.new.slots c.put.new.self.next _ c.play-frame.new.slots c.next_frame.result at put grown c.play-frame.ensures.kept

@@ -8,14 +8,14 @@ use Rattle.seat.proofs.state.Seat.press.Goals as goal
 
 pub returns-then-not-are-slots : goal.returns-then-not-are-slots
 returns-then-not-are-slots g c =
-    let s = setting g.G.Game.next g.Input.InputKind.idle g.Input.InputKind.reads g.Input.InputKind.code g.H.GuessRule.guessed in
+    let s = setting g.G.Game.next g.G.Input.InputKind.idle g.G.Input.InputKind.reads g.G.Input.InputKind.code g.H.GuessRule.guessed in
     let v = view g.K.Keeper.kept c.args.self.now c.args.slots.own.now c.args.slots.other.now c.args.slots.digests.now in
     let refused = slots_wrong v (press_check s v c.args.code) (sym c.if-not-are-slots.ensures) in
     record { answer = answered_by _ _ _ refused c.number.ensures; leaves = kept_by _ _ v _ refused; same = λ _. refl }
 
 pub returns-in-Err : goal.returns-in-Err
 returns-in-Err g c =
-    let s = setting g.G.Game.next g.Input.InputKind.idle g.Input.InputKind.reads g.Input.InputKind.code g.H.GuessRule.guessed in
+    let s = setting g.G.Game.next g.G.Input.InputKind.idle g.G.Input.InputKind.reads g.G.Input.InputKind.code g.H.GuessRule.guessed in
     let v = view g.K.Keeper.kept c.args.self.now c.args.slots.own.now c.args.slots.other.now c.args.slots.digests.now in
     let why = or_err (press_check s v c.args.code) _ c.in-Err.why c.in-Err.ensures in
     let refused = slots_given v (press_check s v c.args.code) (sym c.if-not-are-slots.ensures) ∙ why in
@@ -23,7 +23,7 @@ returns-in-Err g c =
 
 pub returns : goal.returns
 returns g c =
-    let s = setting g.G.Game.next g.Input.InputKind.idle g.Input.InputKind.reads g.Input.InputKind.code g.H.GuessRule.guessed in
+    let s = setting g.G.Game.next g.G.Input.InputKind.idle g.G.Input.InputKind.reads g.G.Input.InputKind.code g.H.GuessRule.guessed in
     let v = view g.K.Keeper.kept c.args.self.now c.args.slots.own.now c.args.slots.other.now c.args.slots.digests.now in
     let ok = or_ok (press_check s v c.args.code) (unwrap_or (s.reads c.args.code) s.idle) c.in-Ok.input c.in-Ok.ensures in
     let passed = slots_given v (press_check s v c.args.code) (sym c.if-not-are-slots.ensures) ∙ ok.0 in
@@ -31,7 +31,7 @@ returns g c =
 
 pub play-requires : goal.play-requires
 play-requires g c =
-    let s = setting g.G.Game.next g.Input.InputKind.idle g.Input.InputKind.reads g.Input.InputKind.code g.H.GuessRule.guessed in
+    let s = setting g.G.Game.next g.G.Input.InputKind.idle g.G.Input.InputKind.reads g.G.Input.InputKind.code g.H.GuessRule.guessed in
     let v = view g.K.Keeper.kept c.args.self.now c.args.slots.own.now c.args.slots.other.now c.args.slots.digests.now in
     let ok = or_ok (press_check s v c.args.code) (unwrap_or (s.reads c.args.code) s.idle) c.in-Ok.input c.in-Ok.ensures in
     let passed = press_passed s v c.args.code ok.0 in

@@ -15,11 +15,11 @@ use Rattle.seat.proofs.state.Seat.send.Goals.{After-digest-at}
 
 -- the fields that are written are those to send
 fields_are : (g : given.Over) (c : After-digest-at g) →
-    let s = setting g.G.Game.next g.Input.InputKind.idle g.Input.InputKind.reads g.Input.InputKind.code g.H.GuessRule.guessed in
+    let s = setting g.G.Game.next g.G.Input.InputKind.idle g.G.Input.InputKind.reads g.G.Input.InputKind.code g.H.GuessRule.guessed in
     let v = view g.K.Keeper.kept c.args.self.now c.args.slots.own.now c.args.slots.other.now c.args.slots.digests.now in
     ◌≡◌ {A = Fields} (record { sender = c.seat-byte.result; match_number = v.match_number; start = v.acknowledged; codes = held_codes c.unacknowledged_codes.result; acknowledgement = c.next.result; report_frame = c.confirmed-confirmed.result; digest = c.digest_at.result }) (to_send s v)
 fields_are g c =
-    let s = setting g.G.Game.next g.Input.InputKind.idle g.Input.InputKind.reads g.Input.InputKind.code g.H.GuessRule.guessed in
+    let s = setting g.G.Game.next g.G.Input.InputKind.idle g.G.Input.InputKind.reads g.G.Input.InputKind.code g.H.GuessRule.guessed in
     let v = view g.K.Keeper.kept c.args.self.now c.args.slots.own.now c.args.slots.other.now c.args.slots.digests.now in
     let confirmed = c.confirmed-confirmed.ensures in
     let digest = c.digest_at.ensures ∙ ap (digest_at v) confirmed in
@@ -27,28 +27,28 @@ fields_are g c =
 
 -- the seat's own counts say that what it sends is held
 held_by : (g : given.Over) (seat : Seat g.row.G.Denot g.row.K.Denot g.row.H.Denot) (own others : List g.row.G-Input.Denot) (digests : List ℕ) →
-    let s = setting g.G.Game.next g.Input.InputKind.idle g.Input.InputKind.reads g.Input.InputKind.code g.H.GuessRule.guessed in
+    let s = setting g.G.Game.next g.G.Input.InputKind.idle g.G.Input.InputKind.reads g.G.Input.InputKind.code g.H.GuessRule.guessed in
     let v = view g.K.Keeper.kept seat own others digests in
     rightly_lent v ≡ true → SendsHeld s v
 held_by g seat own others digests = sends_held _ _ seat.acknowledged_within seat.unacknowledged seat.lead
 
 pub returns-then-not-are-slots : goal.returns-then-not-are-slots
 returns-then-not-are-slots g c =
-    let s = setting g.G.Game.next g.Input.InputKind.idle g.Input.InputKind.reads g.Input.InputKind.code g.H.GuessRule.guessed in
+    let s = setting g.G.Game.next g.G.Input.InputKind.idle g.G.Input.InputKind.reads g.G.Input.InputKind.code g.H.GuessRule.guessed in
     let v = view g.K.Keeper.kept c.args.self.now c.args.slots.own.now c.args.slots.other.now c.args.slots.digests.now in
     let sent = sent_nothing s v c.args.buffer.now c.number.result (sym c.if-not-are-slots.ensures) c.number.ensures in
     record { answer = sent.0; bytes = sent.1; slots = (refl, refl, refl); held = held_by g c.args.self.now c.args.slots.own.now c.args.slots.other.now c.args.slots.digests.now }
 
 pub returns-in-Err : goal.returns-in-Err
 returns-in-Err g c =
-    let s = setting g.G.Game.next g.Input.InputKind.idle g.Input.InputKind.reads g.Input.InputKind.code g.H.GuessRule.guessed in
+    let s = setting g.G.Game.next g.G.Input.InputKind.idle g.G.Input.InputKind.reads g.G.Input.InputKind.code g.H.GuessRule.guessed in
     let v = view g.K.Keeper.kept c.args.self.now c.args.slots.own.now c.args.slots.other.now c.args.slots.digests.now in
     let sent = sent_err s v c.args.buffer.now c.write.new.buffer (sym c.if-not-are-slots.ensures) _ (fields_are g (goal.at.returns-in-Err g c).After-digest-at) c.write.ensures.bytes c.in-Err.why c.number-in-Err.result c.in-Err.ensures.answer c.number-in-Err.ensures in
     record { answer = sent.0; bytes = sent.1; slots = (refl, refl, refl); held = held_by g c.args.self.now c.args.slots.own.now c.args.slots.other.now c.args.slots.digests.now }
 
 pub returns : goal.returns
 returns g c =
-    let s = setting g.G.Game.next g.Input.InputKind.idle g.Input.InputKind.reads g.Input.InputKind.code g.H.GuessRule.guessed in
+    let s = setting g.G.Game.next g.G.Input.InputKind.idle g.G.Input.InputKind.reads g.G.Input.InputKind.code g.H.GuessRule.guessed in
     let v = view g.K.Keeper.kept c.args.self.now c.args.slots.own.now c.args.slots.other.now c.args.slots.digests.now in
     let sent = sent_ok s v c.args.buffer.now c.write.new.buffer (sym c.if-not-are-slots.ensures) _ (fields_are g (goal.at.returns g c).After-digest-at) c.write.ensures.bytes c.in-Ok.length c.in-Ok.ensures.answer in
     record { answer = sent.0; bytes = sent.1; slots = (refl, refl, refl); held = held_by g c.args.self.now c.args.slots.own.now c.args.slots.other.now c.args.slots.digests.now }

@@ -12,21 +12,21 @@ use Rattle.seat.proofs.state.Seat.take.Goals as goal
 
 pub returns-then-not-are-slots : goal.returns-then-not-are-slots
 returns-then-not-are-slots g c =
-    let s = setting g.G.Game.next g.Input.InputKind.idle g.Input.InputKind.reads g.Input.InputKind.code g.H.GuessRule.guessed in
+    let s = setting g.G.Game.next g.G.Input.InputKind.idle g.G.Input.InputKind.reads g.G.Input.InputKind.code g.H.GuessRule.guessed in
     let v = view g.K.Keeper.kept c.args.self.now c.args.slots.own.now c.args.slots.other.now c.args.slots.digests.now in
     let r = refused_unlent s v c.args.bytes.now c.number.result (sym c.if-not-are-slots.ensures) c.number.ensures in
     record { answer = r.0; leaves = r.1; replays = replays_nothing s v v refl; same = λ _. refl }
 
 pub returns-in-Err : goal.returns-in-Err
 returns-in-Err g c =
-    let s = setting g.G.Game.next g.Input.InputKind.idle g.Input.InputKind.reads g.Input.InputKind.code g.H.GuessRule.guessed in
+    let s = setting g.G.Game.next g.G.Input.InputKind.idle g.G.Input.InputKind.reads g.G.Input.InputKind.code g.H.GuessRule.guessed in
     let v = view g.K.Keeper.kept c.args.self.now c.args.slots.own.now c.args.slots.other.now c.args.slots.digests.now in
     let r = refused_early s v c.args.bytes.now (sym c.if-not-are-slots.ensures) c.in-Err.why c.number-in-Err.result c.in-Err.ensures.answer c.number-in-Err.ensures in
     record { answer = r.0; leaves = r.1; replays = replays_nothing s v v refl; same = λ _. refl }
 
 pub catch-up-requires : goal.catch-up-requires
 catch-up-requires g c =
-    let s = setting g.G.Game.next g.Input.InputKind.idle g.Input.InputKind.reads g.Input.InputKind.code g.H.GuessRule.guessed in
+    let s = setting g.G.Game.next g.G.Input.InputKind.idle g.G.Input.InputKind.reads g.G.Input.InputKind.code g.H.GuessRule.guessed in
     let v = view g.K.Keeper.kept c.args.self.now c.args.slots.own.now c.args.slots.other.now c.args.slots.digests.now in
     let d = fields_read c.in-Ok.datagram in
     let ok = passed s v d (checked_ok s v c.args.bytes.now d c.in-Ok.ensures.answer).2 in
@@ -43,7 +43,7 @@ catch-up-requires g c =
 
 pub returns-in-Err-catch-up : goal.returns-in-Err-catch-up
 returns-in-Err-catch-up g c =
-    let s = setting g.G.Game.next g.Input.InputKind.idle g.Input.InputKind.reads g.Input.InputKind.code g.H.GuessRule.guessed in
+    let s = setting g.G.Game.next g.G.Input.InputKind.idle g.G.Input.InputKind.reads g.G.Input.InputKind.code g.H.GuessRule.guessed in
     let v = view g.K.Keeper.kept c.args.self.now c.args.slots.own.now c.args.slots.other.now c.args.slots.digests.now in
     let d = fields_read c.in-Ok.datagram in
     let r = refused_late s v c.args.bytes.now (sym c.if-not-are-slots.ensures) d c.in-Err-catch-up.why c.number-in-Err-catch-up.result _ c.in-Ok.ensures.answer c.in-Err-catch-up.ensures.answer c.number-in-Err-catch-up.ensures c.catch-up.ensures.leaves in
@@ -51,7 +51,7 @@ returns-in-Err-catch-up g c =
 
 pub returns : goal.returns
 returns g c =
-    let s = setting g.G.Game.next g.Input.InputKind.idle g.Input.InputKind.reads g.Input.InputKind.code g.H.GuessRule.guessed in
+    let s = setting g.G.Game.next g.G.Input.InputKind.idle g.G.Input.InputKind.reads g.G.Input.InputKind.code g.H.GuessRule.guessed in
     let v = view g.K.Keeper.kept c.args.self.now c.args.slots.own.now c.args.slots.other.now c.args.slots.digests.now in
     let d = fields_read c.in-Ok.datagram in
     let given = sym c.if-not-are-slots.ensures in
