@@ -7,13 +7,13 @@ use Rattle.seat.proofs.take.all_read.Goals as goal
 pub loop-k-init : goal.loop-k-init
 loop-k-init g c = refl
 
-pub returns-in-default : goal.returns-in-default
-returns-in-default g c =
+pub returns-in_default : goal.returns-in_default
+returns-in_default g c =
     let cs = codes_in c.args.datagram.now in
-    read_end g.I.InputKind.reads cs _ c.loop-k.k (nth_outside cs c.loop-k.k (sym c.in-default.ensures)) c.loop-k.invariant
+    read_end g.I.InputKind.reads cs _ c.loop-k.k (nth_outside cs c.loop-k.k (sym c.in_default.ensures)) c.loop-k.invariant
 
-pub returns-in-default-read : goal.returns-in-default-read
-returns-in-default-read g c = read_stops g.I.InputKind.reads (codes_in c.args.datagram.now) _ c.loop-k.k c.in-Some.code (sym c.in-Some.ensures) c.in-default-read.ensures c.loop-k.invariant
+pub returns-in_default-read : goal.returns-in_default-read
+returns-in_default-read g c = read_stops g.I.InputKind.reads (codes_in c.args.datagram.now) _ c.loop-k.k c.in-Some.code (sym c.in-Some.ensures) c.in_default-read.ensures c.loop-k.invariant
 
 pub loop-k-preserved : goal.loop-k-preserved
 loop-k-preserved g c = read_more g.I.InputKind.reads (codes_in c.args.datagram.now) _ c.loop-k.k c.in-Some.code c.in-Some-read.field-0 (sym c.in-Some.ensures) c.in-Some-read.ensures c.loop-k.invariant

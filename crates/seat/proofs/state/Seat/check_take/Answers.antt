@@ -8,19 +8,19 @@ use Rattle.seat.specs.Meaning.{view}
 use Rattle.seat.proofs.Takes.{pass, confirms_from}
 use Rattle.seat.proofs.state.Seat.check_take.Goals as goal
 
-pub end-of-end-requires : goal.end-of-end-requires
-end-of-end-requires g c = (c.in-ok-datagram.ensures.laws.fits (fields_read c.in-ok-datagram.datagram) refl).few
+pub end_of-end-requires : goal.end_of-end-requires
+end_of-end-requires g c = (c.in_ok-datagram.ensures.laws.fits (fields_read c.in_ok-datagram.datagram) refl).few
 
 pub returns : goal.returns
 returns g c =
     let s = setting g.G.Game.next g.G.Input.InputKind.idle g.G.Input.InputKind.reads g.G.Input.InputKind.code g.H.GuessRule.guessed in
     let v = view {I = g.row.G-Input.Denot} g.K.Keeper.kept c.args.self.now [] [] [] in
-    let d = fields_read c.in-ok-datagram.datagram in
-    let told = c.in-ok-datagram.ensures in
+    let d = fields_read c.in_ok-datagram.datagram in
+    let told = c.in_ok-datagram.ensures in
     let ok = pass s v d (record {
       this_match = c.if-datagram-self.false;
-      other_seat = c.if-datagram-seat-byte.false ∙ c.seat-byte.ensures;
-      codes_read = sym c.if-not-all-read.ensures;
+      other_seat = c.if-datagram-seat_byte.false ∙ c.seat_byte.ensures;
+      codes_read = sym c.if-not-all_read.ensures;
       starts = omega arith;
       ends_near = omega arith;
       ends_within = omega arith;

@@ -6,11 +6,11 @@ use Rattle.seat.proofs.Checks.{or_ok, or_err, slots_given, slots_wrong, each_who
 use Rattle.seat.proofs.Presses.{press_passed}
 use Rattle.seat.proofs.state.Seat.press.Goals as goal
 
-pub returns-then-not-are-slots : goal.returns-then-not-are-slots
-returns-then-not-are-slots g c =
+pub returns-then-not-are_slots : goal.returns-then-not-are_slots
+returns-then-not-are_slots g c =
     let s = setting g.G.Game.next g.G.Input.InputKind.idle g.G.Input.InputKind.reads g.G.Input.InputKind.code g.H.GuessRule.guessed in
     let v = view g.K.Keeper.kept c.args.self.now c.args.slots.own.now c.args.slots.other.now c.args.slots.digests.now in
-    let refused = slots_wrong v (press_check s v c.args.code) (sym c.if-not-are-slots.ensures) in
+    let refused = slots_wrong v (press_check s v c.args.code) (sym c.if-not-are_slots.ensures) in
     record { answer = answered_by _ _ _ refused c.number.ensures; leaves = kept_by _ _ v _ refused; same = λ _. refl }
 
 pub returns-in-Err : goal.returns-in-Err
@@ -18,7 +18,7 @@ returns-in-Err g c =
     let s = setting g.G.Game.next g.G.Input.InputKind.idle g.G.Input.InputKind.reads g.G.Input.InputKind.code g.H.GuessRule.guessed in
     let v = view g.K.Keeper.kept c.args.self.now c.args.slots.own.now c.args.slots.other.now c.args.slots.digests.now in
     let why = or_err (press_check s v c.args.code) _ c.in-Err.why c.in-Err.ensures in
-    let refused = slots_given v (press_check s v c.args.code) (sym c.if-not-are-slots.ensures) ∙ why in
+    let refused = slots_given v (press_check s v c.args.code) (sym c.if-not-are_slots.ensures) ∙ why in
     record { answer = answered_by _ _ _ refused c.number-in-Err.ensures; leaves = kept_by _ _ v _ refused; same = λ _. refl }
 
 pub returns : goal.returns
@@ -26,7 +26,7 @@ returns g c =
     let s = setting g.G.Game.next g.G.Input.InputKind.idle g.G.Input.InputKind.reads g.G.Input.InputKind.code g.H.GuessRule.guessed in
     let v = view g.K.Keeper.kept c.args.self.now c.args.slots.own.now c.args.slots.other.now c.args.slots.digests.now in
     let ok = or_ok (press_check s v c.args.code) (unwrap_or (s.reads c.args.code) s.idle) c.in-Ok.input c.in-Ok.ensures in
-    let passed = slots_given v (press_check s v c.args.code) (sym c.if-not-are-slots.ensures) ∙ ok.0 in
+    let passed = slots_given v (press_check s v c.args.code) (sym c.if-not-are_slots.ensures) ∙ ok.0 in
     record { answer = accepted_by _ passed; leaves = c.play.ensures ∙ ap (pressed s v) ok.1 ∙ changed_by _ v _ passed; same = λ no. absurd (no.0 refl) }
 
 pub play-requires : goal.play-requires
@@ -35,7 +35,7 @@ play-requires g c =
     let v = view g.K.Keeper.kept c.args.self.now c.args.slots.own.now c.args.slots.other.now c.args.slots.digests.now in
     let ok = or_ok (press_check s v c.args.code) (unwrap_or (s.reads c.args.code) s.idle) c.in-Ok.input c.in-Ok.ensures in
     let passed = press_passed s v c.args.code ok.0 in
-    let whole = each_whole v (sym c.if-not-are-slots.ensures) in
+    let whole = each_whole v (sym c.if-not-are_slots.ensures) in
     let a = passed.below_the_end in
     let b = passed.not_far in
     let d = passed.few_unacknowledged in
