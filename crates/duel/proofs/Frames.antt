@@ -1,15 +1,14 @@
 -- A frame keeps a board sound, and keeps the laws of a frame.
-use Rattle.std.proofs.Common.{◌≡◌, ℕ, ◌+◌, ◌<◌, ◌≤◌, min, Bool, true, false, cond, ◌&&◌, Some, None, Option, unwrap_or, sym, refl, ap, ◌∙◌, subst, arith}
+use Rattle.std.proofs.Common.{◌≡◌, ◌+◌, ◌<◌, ◌≤◌, min, Bool, true, false, ◌&&◌, None, Option, unwrap_or, sym, refl, ap, ◌∙◌, subst, arith}
 use Rattle.std.proofs.lemmas.Bool.{eq-eqb, and_from, both_ways, cond_both}
 use Rattle.duel.specs.declared.input.Direction.{Direction}
 use Rattle.duel.specs.declared.input.DuelInput.{DuelInput}
 use Rattle.duel.specs.declared.board.Board.{Board}
 use Rattle.duel.specs.declared.board.Walls.{Walls}
 use Rattle.duel.specs.declared.board.Player.{Player}
-use Rattle.duel.specs.declared.board.Cell.{Cell}
-use Rattle.duel.specs.Boards.{same_cell, aim, both_aim, first_aim, second_aim, first_moved, second_moved, moved, sees, fired, played, sound, wall}
+use Rattle.duel.specs.Boards.{same_cell, aim, both_aim, first_aim, second_aim, first_moved, second_moved, moved, sees, fired, played}
 use Rattle.duel.specs.Laws.{Standing, Scores, Stays, Frame}
-use Rattle.duel.specs.Moves.{Sound, sound_from, sound_test, first_moved_in, second_moved_in, first_moved_clear, second_moved_clear, moved_apart, first_moved_score, second_moved_score}
+use Rattle.duel.specs.Moves.{Sound, first_moved_in, second_moved_in, first_moved_clear, second_moved_clear, moved_apart, first_moved_score, second_moved_score}
 
 -- a shot adds at most 1, and never passes 65,535
 fired_score : (w : Walls) (p q : Player) (f : Bool) → p.score < 65536 → ((fired w p q f).score < 65536) × Scores p (fired w p q f)

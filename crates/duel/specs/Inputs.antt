@@ -1,5 +1,5 @@
 -- The codes of Duel's inputs: direction + 8 × fire, where 0 is no direction.
-use Rattle.std.specs.Prelude.{ℕ, ◌+◌, ◌*◌, ◌/◌, ◌%◌, Bool, true, false, cond, Some, None, Option, ◌==◌}
+use Rattle.std.specs.Prelude.{ℕ, ◌+◌, ◌/◌, ◌%◌, Bool, true, false, cond, Some, None, Option, ◌==◌}
 use Rattle.std.specs.Option.{option_map}
 use Rattle.duel.specs.declared.input.Direction.{Direction}
 use Rattle.duel.specs.declared.input.Direction.TheVariants.{Up, Right, Down, Left}

@@ -1,5 +1,5 @@
 -- What holds of every board of a Duel, and of every frame, in the game's own words.
-use Rattle.std.specs.Prelude.{◌≡◌, ℕ, ◌+◌, ◌<◌, ◌≤◌, false, None}
+use Rattle.std.specs.Prelude.{◌≡◌, ◌+◌, ◌≤◌, false, None}
 use Rattle.duel.specs.declared.input.DuelInput.{DuelInput}
 use Rattle.duel.specs.declared.board.Player.{Player}
 use Rattle.duel.specs.declared.board.Board.{Board}

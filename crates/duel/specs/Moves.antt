@@ -1,9 +1,9 @@
 -- Where steering leads: into range, into no wall, and never into one cell.
-use Rattle.std.specs.Prelude.{◌≡◌, ℕ, ◌+◌, ◌-◌, ◌<◌, ◌≤◌, Bool, true, false, cond, not, ◌&&◌, ◌||◌, Some, None, Option, nat_lt}
+use Rattle.std.specs.Prelude.{◌≡◌, ℕ, ◌<◌, Bool, true, false, cond, Some, None, Option, nat_lt}
 use Rattle.std.proofs.Math.Path.{refl}
-use Rattle.std.proofs.Common.{sym, ap, subst, ◌∙◌, ⊎_elim, arith}
+use Rattle.std.proofs.Common.{subst, arith}
 use Rattle.std.specs.Option.{unwrap_or}
-use Rattle.std.proofs.lemmas.Bool.{and_parts, and_from, ltb-true, lt-ltb, not-true, not_from_false, cond_both, both_ways}
+use Rattle.std.proofs.lemmas.Bool.{and_parts, and_from, ltb-true, lt-ltb, not-true, not_from_false}
 use Rattle.std.proofs.lemmas.Bool.Decides.{nat_tests}
 use Rattle.duel.specs.declared.input.Direction.{Direction}
 use Rattle.duel.specs.declared.input.DuelInput.{DuelInput}
@@ -11,7 +11,7 @@ use Rattle.duel.specs.declared.board.Cell.{Cell}
 use Rattle.duel.specs.declared.board.Walls.{Walls}
 use Rattle.duel.specs.declared.board.Player.{Player}
 use Rattle.duel.specs.declared.board.Board.{Board}
-use Rattle.duel.specs.Boards.{Within, within, same_cell, ahead, wall, enterable, aim, both_aim, moved, fired, first_aim, second_aim, first_moved, second_moved, played, sound}
+use Rattle.duel.specs.Boards.{Within, within, same_cell, ahead, wall, enterable, aim, both_aim, moved, first_aim, second_aim, first_moved, second_moved, sound}
 use Rattle.duel.specs.Scans.{ahead_within}
 
 -- what a sound board is

@@ -1,8 +1,7 @@
 -- Words and boards: each spells the other.
-use Rattle.std.specs.Prelude.{◌≡◌, ℕ, ◌+◌, ◌*◌, ◌/◌, ◌%◌, ◌<◌, ◌≤◌, Bool, true, false, cond, List, [], ◌∷◌, map, length, take, is_some, Some, None, Option, ◌==◌, slice_index, refl}
-use Rattle.std.proofs.Common.{sym, ap, subst, ◌∙◌, arith, length-take}
+use Rattle.std.specs.Prelude.{◌≡◌, ℕ, ◌/◌, ◌%◌, ◌<◌, ◌≤◌, Bool, true, false, cond, map, length, take, Some, None, Option, ◌==◌, slice_index, refl}
+use Rattle.std.proofs.Common.{sym, ap, ◌∙◌, arith, length-take}
 use Rattle.std.specs.List.{range_with_len}
-use Rattle.std.specs.Option.{option_map}
 use Rattle.std.proofs.lemmas.List.FromFn.{fill_by_all}
 use Rattle.std.proofs.lemmas.List.{length-take-le, get_or-take}
 use Rattle.std.proofs.lemmas.Bool.{eqb-true, ne_eqb}
@@ -15,7 +14,7 @@ use Rattle.duel.specs.Boards.{sound, Within}
 use Rattle.duel.specs.Inputs.{number_of_direction, direction_numbered}
 use Rattle.duel.specs.Words.{words_of, facing_board, spelled, sound_if, lawful, trail_of, before, undone, pose}
 use Rattle.duel.specs.Codes.{numbered_back}
-use Rattle.duel.specs.Moves.{Sound, sound_from}
+use Rattle.duel.specs.Moves.{sound_from}
 
 numbered : (d : Direction) → direction_numbered (number_of_direction d) ≡ Some d
 numbered Up = refl

@@ -1,9 +1,8 @@
 -- A state of Duel as its ten words: column, row, facing and score of seat 0, the same of seat 1, then two wall words.
-use Rattle.std.specs.Prelude.{ℕ, ◌+◌, ◌*◌, ◌/◌, ◌%◌, ◌^◌, Bool, true, false, cond, List, [], ◌∷◌, length, Some, None, Option, ◌==◌, slice_index}
+use Rattle.std.specs.Prelude.{ℕ, ◌+◌, ◌*◌, ◌/◌, ◌%◌, ◌^◌, Bool, false, cond, List, [], ◌∷◌, length, Some, None, Option, ◌==◌, slice_index}
 use Rattle.interface.specs.Games.{State, if_lawful}
 use Rattle.duel.specs.declared.input.Direction.{Direction}
 use Rattle.duel.specs.declared.input.DuelInput.{DuelInput}
-use Rattle.duel.specs.declared.board.Walls.{Walls}
 use Rattle.duel.specs.declared.board.Player.{Player}
 use Rattle.duel.specs.declared.board.Board.{Board}
 use Rattle.duel.specs.Inputs.{number_of_direction, direction_numbered}

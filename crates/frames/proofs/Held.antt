@@ -1,11 +1,10 @@
 -- What a queue reads, and what a put leaves.
-use Rattle.std.proofs.Common.{◌≡◌, ℕ, ◌+◌, ◌-◌, ◌%◌, ◌<◌, ◌≤◌, max, Bool, true, false, cond, ◌&&◌, ◌||◌, eqb, ltb, leb, List, [], ◌∷◌, length, get_or, set, Some, None, Option, sym, refl, ap, ◌∙◌, ⊎_elim, arith, length-set}
-use Rattle.std.specs.List.{slice_get}
+use Rattle.std.proofs.Common.{◌≡◌, ℕ, ◌+◌, ◌%◌, ◌<◌, ◌≤◌, max, List, length, get_or, set, Some, sym, ⊎_elim, arith, length-set}
 use Rattle.std.proofs.lemmas.Option.{slice_get_read}
 use Rattle.std.proofs.lemmas.Bool.{cases_eq, cases_Bool}
 use Rattle.std.proofs.lemmas.Bool.Decides.{nat_tests}
 use Rattle.interface.proofs.Slots.{nth_set_same, nth_set_other}
-use Rattle.frames.specs.Queue.{in_reach, slot_of, whole, held, may_put, next_after, slots_after, read_after}
+use Rattle.frames.specs.Queue.{in_reach, held, read_after}
 
 -- a frame that is held reads what stands in its slot
 pub held_there : {T : Type 0} (slots : List T) (next frame : ℕ) (x : T) → length slots ≡ 32 → frame < next → next ≤ frame + 32 → x ≡ get_or slots (frame % 32) x → Some x ≡ held slots next frame

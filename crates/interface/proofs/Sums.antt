@@ -1,9 +1,9 @@
 -- The digest, word by word.
-use Rattle.std.proofs.Common.{◌≡◌, ℕ, ◌+◌, ◌*◌, ◌%◌, ◌^◌, ◌<◌, ◌≤◌, List, [], ◌∷◌, length, drop, Some, None, sym, ap, ◌∙◌, arith}
+use Rattle.std.proofs.Common.{◌≡◌, ℕ, ◌+◌, ◌*◌, ◌%◌, ◌^◌, ◌<◌, List, drop, Some, None, ap, arith}
 use Rattle.std.specs.List.{slice_get}
 use Rattle.std.proofs.lemmas.List.{drop_all}
 use Rattle.interface.specs.Digest.{weighted, digest_of}
-use Rattle.interface.proofs.Places.{nth_inside, nth_outside, nth_drop}
+use Rattle.interface.proofs.Places.{nth_outside, nth_drop}
 
 -- one word more
 pub digest_more : (ws : List ℕ) (k s w d : ℕ) → slice_get ws k ≡ Some w → (s + weighted k (drop k ws)) % 2 ^ 32 ≡ d → ((s + (2 * k + 1) * w % 2 ^ 32) % 2 ^ 32 + weighted (k + 1) (drop (k + 1) ws)) % 2 ^ 32 ≡ d

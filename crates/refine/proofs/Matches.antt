@@ -10,7 +10,7 @@ use Rattle.plain.specs.Turns.{CaughtUp}
 use Rattle.plain.proofs.Counting.{sound}
 use Rattle.seat.specs.Views.{View, confirmed}
 use Rattle.refine.specs.Setup.{Setup, rules, Lawful}
-use Rattle.refine.specs.Memory.{Entry, SlotLists, Memory, seat, own_lent, cut, own_part}
+use Rattle.refine.specs.Memory.{Entry, SlotLists, Memory, seat, own_part}
 use Rattle.refine.specs.Outcomes.{Pressing, numbered}
 use Rattle.refine.specs.Standing.{SeatStands, Stands, well_brought}
 use Rattle.refine.specs.Laws.{opened, Lists, ListsConfirmed, Moments, OneOf, match_answers}

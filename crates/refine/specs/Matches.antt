@@ -1,7 +1,7 @@
 -- A whole list of calls on one match: what each answers, and what they leave. The caller brings slots for both seats, 32 or more for
 -- each queue, of which the first 32 are the seat's own, and a log. Each call is lent slots from the front, in any number, and records from
 -- the front of the log: so its own slots or a wrong number of them, and all of the log or less.
-use Rattle.std.specs.Prelude.{◌≡◌, ℕ, ◌+◌, ◌^◌, ◌<◌, ◌≤◌, Bool, true, List, [], ◌∷◌, ◌++◌, map, length, get_or, take, drop, Some}
+use Rattle.std.specs.Prelude.{◌≡◌, ℕ, ◌+◌, ◌^◌, ◌<◌, ◌≤◌, Bool, true, List, [], ◌∷◌, ◌++◌, map, length, take, drop, Some}
 use Rattle.std.specs.List.{slice_get}
 use Rattle.interface.specs.Answers.{accepted}
 use Rattle.interface.specs.Games.{State}
@@ -12,8 +12,8 @@ use Rattle.plain.specs.States.{truth, replayed}
 use Rattle.plain.specs.Turns.{CaughtUp}
 use Rattle.seat.specs.Views.{confirmed}
 use Rattle.refine.specs.Setup.{Setup, rules, Lawful}
-use Rattle.refine.specs.Memory.{Entry, SlotLists, Memory, slots_of, with_slots, seat, put_seat, with_log, joined, cut, own_part, no_entry, record_bytes}
-use Rattle.refine.specs.Outcomes.{Call, Pressing, Outcome, numbered, result, as_turn}
+use Rattle.refine.specs.Memory.{Entry, SlotLists, Memory, slots_of, with_slots, seat, put_seat, with_log, joined, cut, own_part}
+use Rattle.refine.specs.Outcomes.{Pressing, Outcome, numbered, result, as_turn}
 use Rattle.refine.specs.Standing.{Stands, ReplaysFrames, well_brought}
 use Rattle.refine.specs.Plays.{Step, Told, Roomy}
 use Rattle.refine.specs.Laws.{opened, ListsConfirmed, Moments, OneOf, match_answers}

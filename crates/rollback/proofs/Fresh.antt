@@ -1,11 +1,10 @@
 -- What is held once newly known inputs are put into their slots.
-use Rattle.std.proofs.Common.{◌≡◌, ℕ, zero, suc, ◌+◌, ◌-◌, ◌%◌, ◌<◌, ◌≤◌, max, Bool, true, false, cond, ltb, List, length, set, Some, None, Option, unwrap_or, sym, refl, ap, ◌∙◌, ⊎_elim, arith, length-set}
+use Rattle.std.proofs.Common.{◌≡◌, ℕ, zero, suc, ◌+◌, ◌-◌, ◌%◌, ◌<◌, ◌≤◌, max, cond, List, length, set, Some, unwrap_or, sym, refl, ap, ◌∙◌, ⊎_elim, arith, length-set}
 use Rattle.std.specs.List.{slice_get}
 use Rattle.std.proofs.lemmas.Bool.Decides.{nat_tests}
 use Rattle.std.proofs.lemmas.Bool.{lt-ltb, le-ltb, cases_eq}
 use Rattle.interface.proofs.Slots.{nth_set_same, nth_set_other}
 use Rattle.frames.specs.Queue.{held}
-use Rattle.plain.specs.States.{first_difference}
 use Rattle.rollback.specs.Inputs.{Setting, Inputs, input_at, other_at, sent_at, put_all, caught_up}
 
 module _ {I : Type 0} (f : ℕ → I) where

@@ -1,9 +1,9 @@
 -- A frame, and frames one after another.
-use Rattle.std.proofs.Common.{◌≡◌, ℕ, suc, ◌+◌, ◌-◌, ◌%◌, ◌<◌, ◌≤◌, max, Bool, true, cond, List, length, set, sym, refl, ap, ◌∙◌, arith}
+use Rattle.std.proofs.Common.{◌≡◌, ℕ, suc, ◌+◌, ◌-◌, ◌%◌, ◌<◌, ◌≤◌, max, Bool, true, List, length, set, sym, ap, ◌∙◌, arith}
 use Rattle.interface.specs.Digest.{digest_of}
 use Rattle.interface.specs.Games.{State}
 use Rattle.interface.specs.Keepers.{newest, advanced}
-use Rattle.frames.specs.Queue.{may_put, slots_after}
+use Rattle.frames.specs.Queue.{slots_after}
 use Rattle.rollback.specs.Inputs.{Setting, Inputs, pair_at, in_order}
 use Rattle.rollback.specs.Replay.{KeptStates, kept_states, stepped_at, frame_at, frames_from}
 

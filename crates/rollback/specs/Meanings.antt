@@ -1,6 +1,6 @@
 -- What the types of this crate and of `datagram` mean here.
 use Rattle.std.specs.Borrow.{Bor}
-use Rattle.std.specs.Prelude.{ℕ, ◌+◌, Bool, List, length}
+use Rattle.std.specs.Prelude.{ℕ, ◌+◌, List, length}
 use Rattle.datagram.specs.declared.forms.Datagram.{Datagram}
 use Rattle.datagram.specs.Reading.{codes_of}
 use Rattle.rollback.specs.declared.inputs.Held.{Held}

@@ -1,5 +1,5 @@
 -- A press, from the calls that make it.
-use Rattle.std.proofs.Common.{◌≡◌, ℕ, ◌+◌, ◌%◌, ◌<◌, ◌≤◌, Bool, true, false, cond, not, eqb, List, set, is_some, None, sym, refl, ap, ◌∙◌, arith}
+use Rattle.std.proofs.Common.{◌≡◌, ℕ, ◌+◌, ◌%◌, not, eqb, List, set, is_some, None, ap, ◌∙◌}
 use Rattle.interface.specs.declared.answers.Refusal.TheVariants.{UnreadCode, Parted, MatchOver, TooFarAhead, Unacknowledged}
 use Rattle.interface.specs.Games.{State}
 use Rattle.rollback.specs.Inputs.{Setting, Inputs}

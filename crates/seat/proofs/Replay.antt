@@ -1,12 +1,11 @@
 -- The frames that a take replays, in the words of Laws.
-use Rattle.std.proofs.Common.{◌≡◌, ℕ, ◌+◌, ◌-◌, ◌%◌, ◌<◌, ◌≤◌, max, Bool, true, false, cond, List, length, unwrap_or, sym, refl, ap, ◌∙◌, subst, arith}
+use Rattle.std.proofs.Common.{◌≡◌, ℕ, ◌+◌, ◌-◌, ◌%◌, ◌<◌, ◌≤◌, max, List, length, unwrap_or, sym, refl, ap, ◌∙◌, subst, arith}
 use Rattle.std.specs.List.{slice_get}
 use Rattle.std.proofs.lemmas.Bool.Decides.{nat_tests}
 use Rattle.frames.specs.Queue.{held}
 use Rattle.datagram.specs.Fields.{Fields}
-use Rattle.plain.specs.States.{first_difference}
 use Rattle.plain.proofs.Replaying.{first_from, first_to, same_below_first, differ_at_first}
-use Rattle.rollback.specs.Inputs.{Setting, Inputs, input_at, other_at, sent_at, put_all, lowest_change}
+use Rattle.rollback.specs.Inputs.{Setting, input_at, other_at, sent_at, lowest_change}
 use Rattle.rollback.proofs.Fresh.{put_all_long, put_all_before}
 use Rattle.seat.specs.Views.{View, inputs}
 use Rattle.seat.specs.Calls.{fresh_inputs, frames_replayed, caught}

@@ -1,6 +1,6 @@
 -- A take, from the calls that make it.
-use Rattle.std.proofs.Common.{◌≡◌, ℕ, ◌+◌, ◌-◌, ◌<◌, ◌≤◌, max, Bool, true, false, cond, not, ◌&&◌, ◌||◌, eqb, ltb, leb, List, length, drop, Some, None, Ok, Err, Option, Result, sym, refl, ap, ◌∙◌, arith}
-use Rattle.std.proofs.lemmas.Bool.{not-false, not_from_true, or_from, or_parts, eq-eqb, eqb-true, ltb-false, le-ltb, and_cases}
+use Rattle.std.proofs.Common.{◌≡◌, ℕ, ◌+◌, ◌-◌, ◌≤◌, max, Bool, true, false, cond, not, ◌&&◌, ◌||◌, ltb, List, length, drop, Some, None, Ok, Err, Option, sym, refl, ap, ◌∙◌, arith}
+use Rattle.std.proofs.lemmas.Bool.{not-false, not_from_true, or_from, or_parts, eq-eqb, eqb-true, ltb-false, le-ltb}
 use Rattle.std.proofs.lemmas.Bool.Decides.{nat_tests}
 use Rattle.interface.specs.Games.{State}
 use Rattle.interface.specs.Keepers.{back_answer, back}
@@ -12,7 +12,7 @@ use Rattle.plain.specs.Match.{unless_refused}
 use Rattle.rollback.specs.Inputs.{Setting, Inputs}
 use Rattle.rollback.specs.Replay.{kept_states, frames_from}
 use Rattle.seat.specs.Views.{View, seat_number}
-use Rattle.seat.specs.Calls.{or_refused, all_read, end_of, not_ours, fields_check, fresh_inputs, frames_replayed, reach_check, caught}
+use Rattle.seat.specs.Calls.{all_read, end_of, not_ours, fields_check, fresh_inputs, frames_replayed, reach_check, caught}
 use Rattle.seat.proofs.Checks.{passes, kept_by}
 
 -- a keeper that went back

@@ -4,7 +4,7 @@ use Rattle.std.specs.List.{range_with_len}
 use Rattle.std.specs.Option.{unwrap_or}
 use Rattle.interface.specs.Digest.{digest_of}
 use Rattle.interface.specs.Games.{State}
-use Rattle.interface.specs.Answers.{accepted, accepted_and_parted, number_of}
+use Rattle.interface.specs.Answers.{accepted, accepted_and_parted}
 use Rattle.interface.specs.Limits.{match_length, most_lead, most_unacknowledged, queue_slots}
 use Rattle.interface.specs.declared.answers.Refusal.{Refusal}
 use Rattle.interface.specs.declared.answers.Refusal.TheVariants.{NotOurs, UnreadCode, StartTooLate, EndTooLate, AcknowledgementTooLate, ReportTooLate, Parted, MatchOver, TooFarAhead, Unacknowledged, BufferTooShort, OutOfReach, BadFrame}

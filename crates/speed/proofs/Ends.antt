@@ -1,9 +1,9 @@
 -- When a game is over, slot by slot.
-use Rattle.std.proofs.Common.{◌≡◌, ℕ, zero, suc, ◌+◌, ◌<◌, true, false, eqb, List, [], ◌∷◌, length, sym, refl, ap, ◌∙◌, ⊎_elim, arith}
+use Rattle.std.proofs.Common.{◌≡◌, ℕ, zero, suc, ◌+◌, ◌<◌, true, false, List, [], ◌∷◌, length, sym, refl, ap, ◌∙◌, ⊎_elim, arith}
 use Rattle.std.proofs.lemmas.Bool.{cases_Bool, and_from, and_parts, or_cases, or_left, or_right, eqb-true, eq-eqb}
 use Rattle.std.proofs.lemmas.List.Edits.{get_or-between, length-between}
 use Rattle.interface.specs.Games.{State}
-use Rattle.speed.specs.Places.{empty_slot, slot_at, at, draws, hand}
+use Rattle.speed.specs.Places.{empty_slot, slot_at, at, hand}
 use Rattle.speed.specs.Rules.{none_held, out_of_cards, over}
 use Rattle.speed.specs.Laws.{WithoutCards}
 

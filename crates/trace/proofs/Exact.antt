@@ -1,17 +1,16 @@
 -- What a text is that reads without fault, and where a fault lies.
-use Rattle.std.proofs.Common.{◌≡◌, ℕ, zero, suc, ◌+◌, ◌-◌, ◌^◌, ◌<◌, ◌≤◌, Bool, true, false, cond, ◌⊎◌, List, [], ◌∷◌, ◌++◌, map, length, get_or, take, Some, None, codes, Option, sym, refl, ap, ◌∙◌, subst, inl, inr, ⊎_elim, arith}
+use Rattle.std.proofs.Common.{◌≡◌, ℕ, zero, suc, ◌+◌, ◌<◌, ◌≤◌, ◌⊎◌, List, [], ◌∷◌, ◌++◌, map, length, get_or, take, Some, None, codes, sym, refl, ap, ◌∙◌, subst, inl, inr, ⊎_elim, arith}
 use Rattle.std.specs.List.{AllByRecursion as All}
-use Rattle.std.proofs.lemmas.List.{append_assoc, length-append}
+use Rattle.std.proofs.lemmas.List.{length-append}
 use Rattle.interface.specs.declared.answers.Refusal.{Refusal}
-use Rattle.interface.specs.declared.answers.Refusal.TheVariants.{BadFirstLine, BadLine, BadEnding, BadNumber}
-use Rattle.trace.specs.declared.forms.First.{First}
+use Rattle.interface.specs.declared.answers.Refusal.TheVariants.{BadLine, BadEnding, BadNumber}
 use Rattle.trace.specs.declared.forms.TraceTurn.{TraceTurn}
 use Rattle.trace.specs.declared.forms.Fault.{Fault}
 use Rattle.trace.specs.declared.line.Verdict.{Verdict}
 use Rattle.trace.specs.declared.line.Verdict.TheVariants.{Turn, End, Misshapen, BadNumber as NoNumber}
-use Rattle.trace.specs.Pieces.{Piece, line_feed, pieces, placed}
+use Rattle.trace.specs.Pieces.{Piece, line_feed, placed}
 use Rattle.trace.specs.Lines.{verdict}
-use Rattle.trace.specs.Reading.{Rest, stopped, ended, after_turn, out_of_place, tail_of, after_end, judged, read_lines}
+use Rattle.trace.specs.Reading.{Rest, stopped, ended, out_of_place, tail_of, after_end, judged, read_lines}
 use Rattle.trace.specs.Writing.{ended_lines}
 use Rattle.trace.specs.Laws.{TurnFits}
 use Rattle.trace.proofs.Spellings.{turn_line, end_is, number_place}

@@ -1,29 +1,23 @@
 -- Reading what was written, and writing what was read.
-use Rattle.std.proofs.Common.{◌≡◌, ℕ, zero, suc, ◌+◌, ◌-◌, ◌^◌, ◌<◌, ◌≤◌, Bool, true, false, cond, eqb, ◌⊎◌, List, [], ◌∷◌, ◌++◌, map, length, get_or, take, Some, None, codes, decimal, Option, sym, refl, ap, ◌∙◌, subst, inl, inr, ⊎_elim, arith}
+use Rattle.std.proofs.Common.{◌≡◌, ℕ, ◌+◌, ◌<◌, Bool, true, false, eqb, List, [], ◌∷◌, ◌++◌, map, length, Some, None, codes, refl, ap, ◌∙◌, arith}
 use Rattle.std.specs.List.{AllByRecursion as All}
-use Rattle.std.proofs.ByRecursion.{All-append}
 use Rattle.std.proofs.lemmas.List.{append_assoc, length-append}
-use Rattle.interface.specs.declared.answers.Refusal.{Refusal}
-use Rattle.interface.specs.declared.answers.Refusal.TheVariants.{BadFirstLine, BadLine, BadEnding, BadNumber}
 use Rattle.trace.specs.declared.forms.GameName.{GameName}
 use Rattle.trace.specs.declared.forms.GameName.TheVariants.{Duel, Speed}
 use Rattle.trace.specs.declared.forms.First.{First}
 use Rattle.trace.specs.declared.forms.TraceTurn.{TraceTurn}
 use Rattle.trace.specs.declared.forms.TraceCall.{TraceCall}
 use Rattle.trace.specs.declared.forms.TraceCall.TheVariants.{Press, Send, Take}
-use Rattle.trace.specs.declared.forms.Fault.{Fault}
-use Rattle.trace.specs.declared.line.Verdict.{Verdict}
-use Rattle.trace.specs.declared.line.Verdict.TheVariants.{Turn, End, Misshapen, BadNumber as NoNumber}
+use Rattle.trace.specs.declared.line.Verdict.TheVariants.{Turn}
 use Rattle.trace.specs.Pieces.{Piece, line_feed, space, pieces, placed, joined_by}
 use Rattle.trace.specs.Tokens.{words}
 use Rattle.trace.specs.Lines.{verdict, first_of}
-use Rattle.trace.specs.Reading.{Rest, Reading, stopped, ended, after_turn, out_of_place, tail_of, after_end, judged, read_lines, reading, read_pieces, read_text}
-use Rattle.trace.specs.Writing.{game_word, seat_word, first_words, turn_words, call_words, line_of, lines_of, ended_lines, text_of}
-use Rattle.trace.specs.Laws.{CallFits, TurnFits, FirstFits, says_all, lines, front, end_line, Lies, Faithful}
-use Rattle.trace.proofs.Joins.{Free, pieces_some, join_pieces, pieces_lines, pieces_free, free_take, lines_joined}
+use Rattle.trace.specs.Reading.{Rest, after_turn, after_end, judged, read_lines, reading, read_pieces, read_text}
+use Rattle.trace.specs.Writing.{game_word, seat_word, first_words, turn_words, call_words, line_of, lines_of, text_of}
+use Rattle.trace.specs.Laws.{CallFits, TurnFits, FirstFits, says_all}
+use Rattle.trace.proofs.Joins.{Free, pieces_lines}
 use Rattle.trace.proofs.Decimals.{decimal_free}
 use Rattle.trace.proofs.Verdicts.{turn_reads, first_reads}
-use Rattle.trace.proofs.Spellings.{turn_line, end_is, number_place, first_is}
 
 abbrev pub line_at : List ℕ → ℕ → Piece
 line_at l at = record { bytes = l; at = at }

@@ -1,5 +1,5 @@
 -- What is known of a line from what it was read as.
-use Rattle.std.proofs.Common.{◌≡◌, ℕ, ◌+◌, ◌^◌, ◌<◌, ◌≤◌, Bool, true, false, cond, ◌&&◌, ◌⊎◌, List, [], ◌∷◌, ◌++◌, map, length, Some, None, Ok, Err, codes, decimal, Option, Result, sym, refl, ap, ◌∙◌, subst, inl, inr, ⊎_elim, arith}
+use Rattle.std.proofs.Common.{◌≡◌, ℕ, ◌+◌, ◌^◌, ◌<◌, ◌≤◌, Bool, true, false, cond, ◌&&◌, ◌⊎◌, List, [], ◌∷◌, map, length, Some, None, Ok, Err, codes, decimal, Option, Result, sym, refl, ap, ◌∙◌, subst, inl, inr, ⊎_elim, arith}
 use Rattle.std.proofs.lemmas.Bool.{and_parts}
 use Rattle.std.proofs.lemmas.List.{length-append}
 use Rattle.trace.specs.declared.forms.GameName.{GameName}
@@ -12,7 +12,7 @@ use Rattle.trace.specs.declared.line.Verdict.{Verdict}
 use Rattle.trace.specs.declared.line.Verdict.TheVariants.{Turn, End, Misshapen, BadNumber}
 use Rattle.trace.specs.Pieces.{Piece, space, pieces, placed, joined_by}
 use Rattle.trace.specs.Numbers.{most_16, most_32, number}
-use Rattle.trace.specs.Tokens.{Lexeme, lexeme, words, place, says, number_in, seat_in, short_in}
+use Rattle.trace.specs.Tokens.{lexeme, words, place, says, number_in, seat_in, short_in}
 use Rattle.trace.specs.Lines.{both, seat_and_number, calls, sends, verdict_of, verdict, game_in, first_by, first_of}
 use Rattle.trace.specs.Writing.{game_word, seat_word, call_words, first_words, turn_words, line_of}
 use Rattle.trace.specs.Laws.{CallFits, TurnFits, FirstFits}

@@ -1,5 +1,5 @@
 -- Words taken one after another.
-use Rattle.std.proofs.Common.{◌≡◌, ℕ, Bool, true, false, List, [], ◌∷◌, is_some, Some, None, Option, sym, refl, ap, ◌∙◌, arith}
+use Rattle.std.proofs.Common.{◌≡◌, ℕ, false, List, [], ◌∷◌, is_some, Some, None, Option, refl, arith}
 use Rattle.std.specs.Option.{option_map}
 use Rattle.trace.specs.declared.token.Token.{Token}
 use Rattle.trace.specs.Tokens.{Lexeme}

@@ -1,27 +1,24 @@
 -- A line that was written, and a line that is read.
-use Rattle.std.proofs.Common.{◌≡◌, ℕ, ◌+◌, ◌^◌, ◌<◌, ◌≤◌, Bool, true, false, cond, ◌&&◌, eqb, leb, List, [], ◌∷◌, ◌++◌, map, length, Some, None, Ok, Err, codes, decimal, Option, Result, sym, refl, ap, ◌∙◌, subst, arith}
+use Rattle.std.proofs.Common.{◌≡◌, ℕ, ◌+◌, ◌^◌, ◌<◌, ◌≤◌, Bool, true, false, cond, eqb, leb, List, [], ◌∷◌, map, length, Some, None, codes, decimal, Option, sym, refl, ap, ◌∙◌, arith}
 use Rattle.std.specs.Option.{option_map}
 use Rattle.std.specs.List.{AllByRecursion as All}
-use Rattle.std.specs.Str.{bytes_eq}
 use Rattle.std.proofs.lemmas.Slice.Eq.{bytes_eq-Decides}
-use Rattle.std.proofs.lemmas.Bool.{le-leb, leb-true, eqb-true, eqb-false, and_parts}
+use Rattle.std.proofs.lemmas.Bool.{le-leb, leb-true, eqb-true, eqb-false}
 use Rattle.std.proofs.lemmas.Fmt.{decimal_digit}
-use Rattle.std.proofs.lemmas.List.{length-append}
 use Rattle.trace.specs.declared.forms.GameName.{GameName}
 use Rattle.trace.specs.declared.forms.GameName.TheVariants.{Duel, Speed}
 use Rattle.trace.specs.declared.forms.First.{First}
 use Rattle.trace.specs.declared.forms.TraceTurn.{TraceTurn}
 use Rattle.trace.specs.declared.forms.TraceCall.{TraceCall}
 use Rattle.trace.specs.declared.forms.TraceCall.TheVariants.{Press, Send, Take}
-use Rattle.trace.specs.declared.line.Verdict.{Verdict}
-use Rattle.trace.specs.declared.line.Verdict.TheVariants.{Turn, End, Misshapen, BadNumber}
-use Rattle.trace.specs.Pieces.{Piece, space, pieces, placed, joined_by}
+use Rattle.trace.specs.declared.line.Verdict.TheVariants.{Turn, End}
+use Rattle.trace.specs.Pieces.{Piece, space, placed}
 use Rattle.trace.specs.Numbers.{most_16, most_32, number}
-use Rattle.trace.specs.Tokens.{Lexeme, a_word, a_number, by_value, lexeme, words, spelling, place, says, number_in, seat_in, short_in}
+use Rattle.trace.specs.Tokens.{Lexeme, by_value, lexeme, words, spelling, place, says, number_in, seat_in, short_in}
 use Rattle.trace.specs.Lines.{both, seat_and_number, calls, sends, verdict_of, verdict, game_in, first_by, first_of}
 use Rattle.trace.specs.Writing.{game_word, seat_word, first_words, turn_words, line_of}
 use Rattle.trace.specs.Laws.{CallFits, TurnFits, FirstFits}
-use Rattle.trace.proofs.Joins.{Free, join_pieces, pieces_join}
+use Rattle.trace.proofs.Joins.{Free, pieces_join}
 use Rattle.trace.proofs.Decimals.{number_decimal, decimal_number, decimal_free}
 
 -- the words of a line that was put together

@@ -7,10 +7,10 @@ use Rattle.interface.specs.declared.answers.Refusal.TheVariants.{BadFirstLine, B
 use Rattle.trace.specs.declared.forms.First.{First}
 use Rattle.trace.specs.declared.forms.TraceTurn.{TraceTurn}
 use Rattle.trace.specs.declared.forms.Fault.{Fault}
-use Rattle.trace.specs.Pieces.{Piece, line_feed, begin, pieces, placed, joined_by}
+use Rattle.trace.specs.Pieces.{line_feed, begin, pieces, placed, joined_by}
 use Rattle.trace.specs.Tokens.{words}
 use Rattle.trace.specs.Lines.{first_of}
-use Rattle.trace.specs.Reading.{Rest, Reading, no_first, read_lines, reading, read_pieces, read_text}
+use Rattle.trace.specs.Reading.{Rest, no_first, read_lines, reading, read_pieces, read_text}
 use Rattle.trace.specs.Writing.{first_words, line_of, lines_of, ended_lines, text_of}
 use Rattle.trace.specs.Laws.{TurnFits, FirstFits, says_all, lines, line_feeds, front, end_line, Lies, Faithful}
 use Rattle.trace.proofs.Joins.{Free, pieces_some, join_pieces, pieces_lines, pieces_free, free_take, lines_joined}

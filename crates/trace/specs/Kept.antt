@@ -1,5 +1,4 @@
 -- A token, without what it borrows.
-use Rattle.std.specs.Prelude.{List}
 use Rattle.trace.specs.declared.token.Token.{Token}
 use Rattle.trace.specs.declared.token.Token.TheVariants.{Word, Number}
 use Rattle.trace.specs.Tokens.{Lexeme, a_word, a_number}

@@ -1,7 +1,6 @@
 -- What ties reading to writing, and where a fault lies.
 use Rattle.std.specs.Prelude.{◌≡◌, ℕ, ◌+◌, ◌-◌, ◌^◌, ◌<◌, ◌≤◌, cond, ◌⊎◌, List, [], ◌∷◌, ◌++◌, length, take, Some, None, codes, Option, ◌==◌, ◌≢◌, slice_index_or}
 use Rattle.std.specs.List.{AllByRecursion as All}
-use Rattle.interface.specs.declared.answers.Refusal.{Refusal}
 use Rattle.interface.specs.declared.answers.Refusal.TheVariants.{BadNumber}
 use Rattle.trace.specs.declared.forms.First.{First}
 use Rattle.trace.specs.declared.forms.TraceTurn.{TraceTurn}

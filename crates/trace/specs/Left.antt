@@ -1,5 +1,5 @@
 -- What is left of a line's words.
-use Rattle.std.specs.Prelude.{ℕ, ◌^◌, ◌<◌, List, [], ◌∷◌, map, Some, None, Option}
+use Rattle.std.specs.Prelude.{◌^◌, ◌<◌, List, [], ◌∷◌, map, Some, None, Option}
 use Rattle.trace.specs.declared.part.Part.{Part}
 use Rattle.trace.specs.declared.words.Words.{Words}
 use Rattle.trace.specs.Pieces.{space}

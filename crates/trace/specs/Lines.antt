@@ -3,7 +3,6 @@ use Rattle.std.specs.Prelude.{ℕ, Bool, cond, ◌&&◌, List, [], ◌∷◌, So
 use Rattle.trace.specs.declared.forms.GameName.{GameName}
 use Rattle.trace.specs.declared.forms.GameName.TheVariants.{Duel, Speed}
 use Rattle.trace.specs.declared.forms.First.{First}
-use Rattle.trace.specs.declared.forms.TraceTurn.{TraceTurn}
 use Rattle.trace.specs.declared.forms.TraceCall.{TraceCall}
 use Rattle.trace.specs.declared.forms.TraceCall.TheVariants.{Press, Send, Take}
 use Rattle.trace.specs.declared.line.Verdict.{Verdict}

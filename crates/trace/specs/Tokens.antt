@@ -1,5 +1,5 @@
 -- The words of a line, each with its place, and with its value where it is a number.
-use Rattle.std.specs.Prelude.{ℕ, Bool, cond, List, [], ◌∷◌, map, Some, None, Option, nat_eq, nat_le}
+use Rattle.std.specs.Prelude.{ℕ, Bool, cond, List, map, Some, None, Option, nat_eq, nat_le}
 use Rattle.std.specs.Option.{option_map}
 use Rattle.std.specs.Str.{bytes_eq}
 use Rattle.trace.specs.Pieces.{Piece, space, pieces, placed}

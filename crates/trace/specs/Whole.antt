@@ -1,5 +1,5 @@
 -- What a trace that was read says.
-use Rattle.std.specs.Prelude.{List, vec_items, Option, Vec}
+use Rattle.std.specs.Prelude.{vec_items, Option, Vec}
 use Rattle.std.specs.declared.alloc.Global.{Global}
 use Rattle.trace.specs.declared.forms.TraceTurn.{TraceTurn}
 use Rattle.trace.specs.declared.forms.Fault.{Fault}

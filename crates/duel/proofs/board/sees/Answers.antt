@@ -1,5 +1,5 @@
-use Rattle.std.proofs.Common.{◌+◌, ◌-◌, false, cond, sym, refl, ap, ◌∙◌, arith}
-use Rattle.duel.specs.Boards.{sees, wall}
+use Rattle.std.proofs.Common.{◌+◌, ◌-◌, false, cond, sym, refl, ap, ◌∙◌}
+use Rattle.duel.specs.Boards.{sees}
 use Rattle.duel.specs.Scans.{ahead_within, sees_edge, sees_target, sees_past, sees_end}
 use Rattle.duel.proofs.board.sees.Goals as goal
 

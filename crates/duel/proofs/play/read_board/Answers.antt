@@ -1,4 +1,4 @@
-use Rattle.std.proofs.Common.{◌≡◌, ◌≤◌, length, get_or, Some, None, sym, ap, ◌∙◌, arith, ltb-false, ltb-true}
+use Rattle.std.proofs.Common.{get_or, Some, sym, ap, ◌∙◌, arith, ltb-false, ltb-true}
 use Rattle.duel.specs.Inputs.{direction_numbered}
 use Rattle.duel.specs.Words.{facing_board}
 use Rattle.duel.specs.Spelling.{spelled_take, spelled_short}

@@ -1,4 +1,4 @@
-use Rattle.std.proofs.Common.{sym, ◌∙◌, arith}
+use Rattle.std.proofs.Common.{sym, arith}
 use Rattle.interface.proofs.Places.{nth_inside}
 use Rattle.interface.proofs.Sums.{digest_more, digest_all}
 use Rattle.interface.proofs.digest.digest.Goals as goal

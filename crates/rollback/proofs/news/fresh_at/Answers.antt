@@ -1,6 +1,6 @@
-use Rattle.std.proofs.Common.{◌≡◌, ◌+◌, ◌-◌, sym, ap, ◌∙◌, arith}
+use Rattle.std.proofs.Common.{◌+◌, ◌-◌, sym, ap, ◌∙◌, arith}
 use Rattle.rollback.specs.Inputs.{setting, sent_at, other_at}
-use Rattle.rollback.specs.Meanings.{inputs_of, codes_in, end_of}
+use Rattle.rollback.specs.Meanings.{inputs_of, codes_in}
 use Rattle.rollback.proofs.Fresh.{fresh_sent, fresh_guess, fresh_same}
 use Rattle.rollback.proofs.news.fresh_at.Goals as goal
 

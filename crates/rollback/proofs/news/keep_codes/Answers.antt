@@ -1,7 +1,6 @@
-use Rattle.std.proofs.Common.{◌≡◌, ◌-◌, sym, refl, ap, ◌∙◌, arith}
-use Rattle.frames.specs.Queue.{next_after}
+use Rattle.std.proofs.Common.{◌-◌, sym, ap, ◌∙◌, arith}
 use Rattle.rollback.specs.Inputs.{sent, put_all}
-use Rattle.rollback.specs.Meanings.{codes_in, end_of}
+use Rattle.rollback.specs.Meanings.{codes_in}
 use Rattle.rollback.proofs.Puts.{may_from, next_one}
 use Rattle.rollback.proofs.Search.{put_more, put_none}
 use Rattle.rollback.proofs.news.keep_codes.Goals as goal

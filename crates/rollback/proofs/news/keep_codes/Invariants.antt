@@ -1,6 +1,6 @@
 use Rattle.std.proofs.Common.{◌≡◌, ◌-◌, ◌≤◌, max, length}
 use Rattle.rollback.specs.Inputs.{sent, put_all}
-use Rattle.rollback.specs.Meanings.{codes_in, end_of}
+use Rattle.rollback.specs.Meanings.{codes_in}
 use Rattle.rollback.proofs.news.keep_codes.Given as goal
 
 -- what is left to put from here makes the whole

@@ -1,4 +1,4 @@
-use Rattle.std.proofs.Common.{◌≡◌, ℕ, ◌-◌, max, sym, refl, ap, ◌∙◌, arith}
+use Rattle.std.proofs.Common.{◌≡◌, ◌-◌, sym, ap, ◌∙◌, arith}
 use Rattle.plain.specs.States.{first_difference}
 use Rattle.rollback.specs.Inputs.{setting, other_at, caught_up, lowest_change}
 use Rattle.rollback.specs.Meanings.{inputs_of, codes_in}

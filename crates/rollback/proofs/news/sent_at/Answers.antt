@@ -1,4 +1,4 @@
-use Rattle.std.proofs.Common.{◌≡◌, ◌-◌, Some, None, unwrap_or, sym, ap, ◌∙◌}
+use Rattle.std.proofs.Common.{◌≡◌, ◌-◌, Some, None, sym, ◌∙◌}
 use Rattle.std.specs.List.{slice_get}
 use Rattle.datagram.specs.Reading.{codes_of}
 use Rattle.rollback.proofs.Sent.{sent_none, sent_some}

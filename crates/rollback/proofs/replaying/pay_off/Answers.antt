@@ -1,5 +1,5 @@
 use Rattle.std.proofs.Common.{sym, refl, ◌∙◌, arith}
-use Rattle.rollback.proofs.Steps.{Owing, owing_less, frames_none}
+use Rattle.rollback.proofs.Steps.{owing_less, frames_none}
 use Rattle.rollback.proofs.replaying.pay_off.Goals as goal
 
 pub loop-keeper-init : goal.loop-keeper-init

@@ -1,4 +1,4 @@
-use Rattle.std.proofs.Common.{◌≡◌, [], ◌∷◌, sym, ap, ◌∙◌}
+use Rattle.std.proofs.Common.{◌∷◌, sym, ap, ◌∙◌}
 use Rattle.trace.specs.Kept.{kept}
 use Rattle.trace.specs.Left.{left}
 use Rattle.trace.specs.Lines.{first_of}

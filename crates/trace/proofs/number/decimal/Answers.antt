@@ -1,5 +1,4 @@
-use Rattle.std.proofs.Common.{◌≡◌, ℕ, ◌+◌, ◌-◌, ◌*◌, ◌<◌, ◌≤◌, true, false, length, get_or, sym, ap, ◌∙◌, arith}
-use Rattle.std.specs.Char.{is_ascii_digit}
+use Rattle.std.proofs.Common.{◌+◌, ◌*◌, ◌≤◌, sym, ◌∙◌, arith}
 use Rattle.trace.specs.Numbers.{most_32}
 use Rattle.trace.proofs.Values.{no_digit, too_large, value_more, digits_more, number_is}
 use Rattle.trace.proofs.number.decimal.Goals as goal

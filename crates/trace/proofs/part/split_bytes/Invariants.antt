@@ -1,4 +1,4 @@
-use Rattle.std.proofs.Common.{◌≡◌, List, ◌++◌, take, drop}
+use Rattle.std.proofs.Common.{◌≡◌, take, drop}
 use Rattle.trace.specs.Pieces.{pieces}
 use Rattle.trace.proofs.Splits.{onto}
 use Rattle.trace.proofs.part.split_bytes.Given as goal

@@ -1,7 +1,6 @@
 use Rattle.std.proofs.Common.{sym, subst}
 use Rattle.std.proofs.lemmas.Result.{IfOk-weaker}
 use Rattle.trace.specs.Laws.{Faithful}
-use Rattle.trace.specs.Whole.{reading_of}
 use Rattle.trace.proofs.Whole.{faithful}
 use Rattle.trace.proofs.read.read.Goals as goal
 

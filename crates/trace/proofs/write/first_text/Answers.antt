@@ -1,4 +1,4 @@
-use Rattle.std.proofs.Common.{◌≡◌, string_bytes, sym, arith}
+use Rattle.std.proofs.Common.{string_bytes, sym, arith}
 use Rattle.std.proofs.lemmas.Result.{IfOk-weaker}
 use Rattle.trace.proofs.Writings.{duel_line, speed_line}
 use Rattle.trace.proofs.write.first_text.Goals as goal

@@ -1,7 +1,7 @@
 use Rattle.std.proofs.Common.{◌≡◌, ◌<◌, sym, subst}
 use Rattle.duel.specs.declared.board.Player.{Player}
 use Rattle.duel.specs.Boards.{Within, first_moved, second_moved}
-use Rattle.duel.specs.Moves.{Sound, sound_from, first_moved_in, second_moved_in, first_moved_score, second_moved_score}
+use Rattle.duel.specs.Moves.{sound_from, first_moved_in, second_moved_in, first_moved_score, second_moved_score}
 use Rattle.duel.proofs.board.Board.play.Goals as goal
 use Rattle.duel.proofs.board.Board.play.Goals.{After-moved-two}
 

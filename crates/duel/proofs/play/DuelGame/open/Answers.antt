@@ -1,4 +1,4 @@
-use Rattle.std.proofs.Common.{◌*◌, ◌/◌, [], ◌∷◌, sym, ap, arith}
+use Rattle.std.proofs.Common.{◌*◌, ◌/◌, [], ◌∷◌, ap, arith}
 use Rattle.duel.proofs.Opening.{lower_walls}
 use Rattle.duel.proofs.play.DuelGame.open.Goals as goal
 

@@ -1,4 +1,4 @@
-use Rattle.std.proofs.Common.{◌≡◌, ℕ, List, Some, sym, ap, ◌∙◌, subst}
+use Rattle.std.proofs.Common.{sym, ap, ◌∙◌}
 use Rattle.duel.specs.Words.{words_of, played_if, undone}
 use Rattle.duel.specs.Spelling.{spelled_words, led_back}
 use Rattle.duel.proofs.play.DuelGame.step.Goals as goal

@@ -1,5 +1,5 @@
 use Rattle.std.proofs.Common.{sym}
-use Rattle.duel.specs.Spelling.{kept_if_sound, refused_if_unsound, refused_if_unspelled}
+use Rattle.duel.specs.Spelling.{kept_if_sound}
 use Rattle.duel.proofs.state.Duel.from_words.Goals as goal
 
 pub returns-then-is_sound : goal.returns-then-is_sound

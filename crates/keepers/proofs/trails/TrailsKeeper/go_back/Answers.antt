@@ -1,4 +1,4 @@
-use Rattle.std.proofs.Common.{◌≡◌, ◌<◌, ◌≤◌, true, false, length, drop, is_err, Some, sym, refl, ap, ◌∙◌, arith}
+use Rattle.std.proofs.Common.{◌≡◌, ◌≤◌, true, false, length, drop, is_err, Some, sym, refl, ap, ◌∙◌, arith}
 use Rattle.interface.proofs.Reach.{back_reaches, back_drops, back_refuses, back_keeps}
 use Rattle.keepers.specs.Rings.{items}
 use Rattle.keepers.specs.Keeping.{kept_by_trails, reached}

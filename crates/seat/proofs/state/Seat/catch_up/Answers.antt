@@ -1,9 +1,9 @@
-use Rattle.std.proofs.Common.{◌≡◌, ◌-◌, max, Ok, Err, sym, refl, ap, ◌∙◌, arith}
+use Rattle.std.proofs.Common.{◌≡◌, ◌-◌, max, Ok, Err, sym, refl, ap, ◌∙◌}
 use Rattle.std.proofs.lemmas.Result.{err_from_is_err_and}
 use Rattle.std.proofs.lemmas.Bool.{true≢false}
 use Rattle.datagram.specs.Meanings.{fields_read}
 use Rattle.rollback.specs.Inputs.{setting}
-use Rattle.seat.specs.Calls.{or_refused, reach_check, frames_replayed}
+use Rattle.seat.specs.Calls.{or_refused, frames_replayed}
 use Rattle.seat.specs.Meaning.{view}
 use Rattle.seat.proofs.Checks.{changed_by}
 use Rattle.interface.proofs.Reach.{refused_by, back_keeps}

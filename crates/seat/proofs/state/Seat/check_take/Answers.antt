@@ -1,9 +1,9 @@
-use Rattle.std.proofs.Common.{◌≡◌, cond, [], Ok, Err, sym, refl, ap, ◌∙◌, arith}
+use Rattle.std.proofs.Common.{cond, [], Err, sym, refl, ap, ◌∙◌, arith}
 use Rattle.interface.specs.declared.answers.Refusal.TheVariants.{Parted}
 use Rattle.datagram.specs.Meanings.{fields_read}
 use Rattle.datagram.specs.Reading.{read_of}
 use Rattle.rollback.specs.Inputs.{setting}
-use Rattle.seat.specs.Calls.{or_refused, fields_check, read_checked, end_of}
+use Rattle.seat.specs.Calls.{or_refused, read_checked, end_of}
 use Rattle.seat.specs.Meaning.{view}
 use Rattle.seat.proofs.Takes.{pass, confirms_from}
 use Rattle.seat.proofs.state.Seat.check_take.Goals as goal

@@ -1,4 +1,4 @@
-use Rattle.std.proofs.Common.{◌≡◌, ◌+◌, ◌%◌, set, sym, refl, ap, ◌∙◌, arith}
+use Rattle.std.proofs.Common.{◌≡◌, ◌+◌, ◌%◌, set, sym, ap, ◌∙◌, arith}
 use Rattle.frames.specs.Queue.{slots_after}
 use Rattle.rollback.specs.Inputs.{setting}
 use Rattle.rollback.proofs.Puts.{may_from, next_one}

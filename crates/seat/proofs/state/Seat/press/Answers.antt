@@ -1,4 +1,4 @@
-use Rattle.std.proofs.Common.{◌≡◌, unwrap_or, sym, refl, ap, ◌∙◌, arith}
+use Rattle.std.proofs.Common.{unwrap_or, sym, refl, ap, ◌∙◌, arith}
 use Rattle.rollback.specs.Inputs.{setting}
 use Rattle.seat.specs.Calls.{press_check, pressed}
 use Rattle.seat.specs.Meaning.{view}

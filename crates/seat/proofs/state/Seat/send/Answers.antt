@@ -1,12 +1,11 @@
-use Rattle.std.proofs.Common.{◌≡◌, ℕ, min, true, List, unwrap_or, sym, refl, ap, ◌∙◌}
+use Rattle.std.proofs.Common.{◌≡◌, ℕ, true, List, sym, refl, ap, ◌∙◌}
 use Rattle.datagram.specs.Fields.{Fields}
 use Rattle.datagram.specs.Meanings.{held_codes}
-use Rattle.frames.specs.Queue.{held}
 use Rattle.rollback.specs.Inputs.{setting}
-use Rattle.seat.specs.Calls.{to_send, unacknowledged_codes}
+use Rattle.seat.specs.Calls.{to_send}
 use Rattle.seat.specs.Meaning.{view}
 use Rattle.seat.specs.Laws.{SendsHeld}
-use Rattle.seat.specs.Views.{digest_at, rightly_lent, seat_number}
+use Rattle.seat.specs.Views.{digest_at, rightly_lent}
 use Rattle.seat.specs.declared.state.Seat.{Seat}
 use Rattle.seat.proofs.Sends.{sent_ok, sent_err, sent_nothing, sends_held}
 use Rattle.seat.proofs.state.Seat.send.Given as given

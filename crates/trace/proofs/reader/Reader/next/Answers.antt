@@ -1,4 +1,4 @@
-use Rattle.std.proofs.Common.{◌≡◌, ◌+◌, ◌^◌, ◌<◌, sym, ap, ◌∙◌, arith}
+use Rattle.std.proofs.Common.{◌+◌, sym, ap, ◌∙◌, arith}
 use Rattle.trace.specs.declared.line.Verdict.TheVariants.{Turn, End, Misshapen, BadNumber}
 use Rattle.trace.specs.Pieces.{line_feed}
 use Rattle.trace.specs.Meanings.{parted}

@@ -1,4 +1,4 @@
-use Rattle.std.proofs.Common.{◌≡◌, ℕ, ◌^◌, ◌<◌, ◌≤◌, ◌∷◌, length, sym, ap, ◌∙◌, arith}
+use Rattle.std.proofs.Common.{◌∷◌, sym, ap, ◌∙◌, arith}
 use Rattle.trace.specs.Pieces.{line_feed}
 use Rattle.trace.specs.Meanings.{piece, parted, parts_left}
 use Rattle.trace.specs.Reading.{read_pieces, read_lines, reading}
