@@ -21,5 +21,5 @@ returns g c =
     record {
       answer = accepts x y c.args.turns.now c.args.told.now hx hy c.if-told-turns.false;
       leaves = played a (opened opening n x y log) _ last c.args.turns.now c.args.told.now c.play-turns.new.told (c.open-fronts-game.ensures log) (c.play-turns.ensures.leaves opening) (c.play-turns.ensures.tells opening) c.play-turns.ensures.later;
-      promise = promised a (record { fits = g.met.Input.InputKind.code_fits; reads_back = g.met.Input.InputKind.reads_back }) n x y c.args.log.now c.ranges.match_number.fits hx hy;
+      promise = promised a (record { fits = g.met.G.Input.InputKind.code_fits; reads_back = g.met.G.Input.InputKind.reads_back }) n x y c.args.log.now c.ranges.match_number.fits hx hy;
     }

@@ -14,10 +14,10 @@ returns-then-second g c =
     let m = c.args.self.now in
     let to = c.args.to.now in
     record {
-      answer = subst (λ s. c.write-record.result ≡ (send_answer (r s) (seat_view g.K0.Keeper.kept g.K1.Keeper.kept m s lent) to.bytes).0) (sym e) c.write-record.ensures.answer;
-      written = subst (λ s. entry_of c.write-record.new.to ≡ sent_entry (r s) (seat_view g.K0.Keeper.kept g.K1.Keeper.kept m s lent) s (entry_of to)) (sym e) c.write-record.ensures.written;
-      slots = c.write-record.ensures.slots;
-      room = c.write-record.ensures.room;
+      answer = subst (λ s. c.write_record.result ≡ (send_answer (r s) (seat_view g.K0.Keeper.kept g.K1.Keeper.kept m s lent) to.bytes).0) (sym e) c.write_record.ensures.answer;
+      written = subst (λ s. entry_of c.write_record.new.to ≡ sent_entry (r s) (seat_view g.K0.Keeper.kept g.K1.Keeper.kept m s lent) s (entry_of to)) (sym e) c.write_record.ensures.written;
+      slots = c.write_record.ensures.slots;
+      room = c.write_record.ensures.room;
     }
 
 pub returns : goal.returns
@@ -28,8 +28,8 @@ returns g c =
     let m = c.args.self.now in
     let to = c.args.to.now in
     record {
-      answer = subst (λ s. c.write-record-answer.result ≡ (send_answer (r s) (seat_view g.K0.Keeper.kept g.K1.Keeper.kept m s lent) to.bytes).0) (sym e) c.write-record-answer.ensures.answer;
-      written = subst (λ s. entry_of c.write-record-answer.new.to ≡ sent_entry (r s) (seat_view g.K0.Keeper.kept g.K1.Keeper.kept m s lent) s (entry_of to)) (sym e) c.write-record-answer.ensures.written;
-      slots = c.write-record-answer.ensures.slots;
-      room = c.write-record-answer.ensures.room;
+      answer = subst (λ s. c.write_record-answer.result ≡ (send_answer (r s) (seat_view g.K0.Keeper.kept g.K1.Keeper.kept m s lent) to.bytes).0) (sym e) c.write_record-answer.ensures.answer;
+      written = subst (λ s. entry_of c.write_record-answer.new.to ≡ sent_entry (r s) (seat_view g.K0.Keeper.kept g.K1.Keeper.kept m s lent) s (entry_of to)) (sym e) c.write_record-answer.ensures.written;
+      slots = c.write_record-answer.ensures.slots;
+      room = c.write_record-answer.ensures.room;
     }

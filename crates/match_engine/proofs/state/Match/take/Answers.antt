@@ -7,7 +7,7 @@ use Rattle.match_engine.specs.Log.{entries}
 use Rattle.match_engine.specs.Meaning.{memory}
 use Rattle.match_engine.proofs.Doing.{no_seat, wrong_slots, wrong_log, lent_whole, take_does}
 use Rattle.match_engine.proofs.Logs.{past_log, past_sent, own_sent, others_sent, datagram_is}
-use Rattle.match_engine.proofs.state.Match.take.Goals.{then-at-log-via-then-at-log, then_at_log_via_else_at_log+then_at_self, then_at_log_via_else_at_log+else_at_self+then_log_at}
+use Rattle.match_engine.proofs.state.Match.take.Goals.{then-at-log-via-then-at-log, then-at-log-via-else-at-log+then-at-self, then-at-log-via-else-at-log+else-at-self+then-log-at}
 use Rattle.match_engine.proofs.state.Match.take.Goals as goal
 
 pub returns-then-seat-gt1 : goal.returns-then-seat-gt1
@@ -18,17 +18,17 @@ returns-then-seat-gt1 g c opening rest =
     let n = c.args.seat in
     let log = c.args.log.now in
     let b = memory g.K0.Keeper.kept g.K1.Keeper.kept m n lent rest (entries log) in
-    no_seat a (record { fits = g.met.Input.InputKind.code_fits; reads_back = g.met.Input.InputKind.reads_back }) b n (Taking c.args.k) tt c.number.result (omega arith) c.number.ensures
+    no_seat a (record { fits = g.met.G.Input.InputKind.code_fits; reads_back = g.met.G.Input.InputKind.reads_back }) b n (Taking c.args.k) tt c.number.result (omega arith) c.number.ensures
 
-pub returns-then-not-are-slots : goal.returns-then-not-are-slots
-returns-then-not-are-slots g c opening rest =
+pub returns-then-not-are_slots : goal.returns-then-not-are_slots
+returns-then-not-are_slots g c opening rest =
     let a = setup opening g.G.Game.next g.G.Input.InputKind.idle g.G.Input.InputKind.reads g.G.Input.InputKind.code g.H0.GuessRule.guessed g.H1.GuessRule.guessed in
     let lent = slot_lists c.args.slots.own.now c.args.slots.other.now c.args.slots.digests.now in
     let m = c.args.self.now in
     let n = c.args.seat in
     let log = c.args.log.now in
     let b = memory g.K0.Keeper.kept g.K1.Keeper.kept m n lent rest (entries log) in
-    wrong_slots a (record { fits = g.met.Input.InputKind.code_fits; reads_back = g.met.Input.InputKind.reads_back }) b n (Taking c.args.k) tt c.number-then-not-are-slots.result (omega arith) (lent_whole g.K0.Keeper.kept g.K1.Keeper.kept m n lent rest (entries log) false (sym c.if-not-are-slots.ensures)) c.number-then-not-are-slots.ensures
+    wrong_slots a (record { fits = g.met.G.Input.InputKind.code_fits; reads_back = g.met.G.Input.InputKind.reads_back }) b n (Taking c.args.k) tt c.number-then-not-are_slots.result (omega arith) (lent_whole g.K0.Keeper.kept g.K1.Keeper.kept m n lent rest (entries log) false (sym c.if-not-are_slots.ensures)) c.number-then-not-are_slots.ensures
 
 pub returns-then-at-log : goal.returns-then-at-log
 returns-then-at-log g c opening rest =
@@ -38,11 +38,11 @@ returns-then-at-log g c opening rest =
     let n = c.args.seat in
     let log = c.args.log.now in
     let b = memory g.K0.Keeper.kept g.K1.Keeper.kept m n lent rest (entries log) in
-    wrong_log a (record { fits = g.met.Input.InputKind.code_fits; reads_back = g.met.Input.InputKind.reads_back }) b n (Taking c.args.k) tt c.number-then-at-log.result NoSuchDatagram (omega arith) (lent_whole g.K0.Keeper.kept g.K1.Keeper.kept m n lent rest (entries log) true (sym c.if-not-are-slots.ensures))
+    wrong_log a (record { fits = g.met.G.Input.InputKind.code_fits; reads_back = g.met.G.Input.InputKind.reads_back }) b n (Taking c.args.k) tt c.number-then-at-log.result NoSuchDatagram (omega arith) (lent_whole g.K0.Keeper.kept g.K1.Keeper.kept m n lent rest (entries log) true (sym c.if-not-are_slots.ensures))
     (elim c.then-at-log.branch [
       | then-at-log-via-then-at-log w ↦ past_log g.K0.Keeper.kept g.K1.Keeper.kept m n lent rest log c.args.k (omega (arith, w.if-at-log.true))
-      | then_at_log_via_else_at_log+then_at_self w ↦ past_sent g.K0.Keeper.kept g.K1.Keeper.kept m n lent rest log c.args.k (omega (arith, w.if-at-log.false)) (omega (arith, w.if-at-self.true))
-      | then_at_log_via_else_at_log+else_at_self+then_log_at w ↦ own_sent g.K0.Keeper.kept g.K1.Keeper.kept m n lent rest log c.args.k _ (omega (arith, w.if-at-log.false)) (omega (arith, w.if-at-self.false)) w.if-log-at.true
+      | then-at-log-via-else-at-log+then-at-self w ↦ past_sent g.K0.Keeper.kept g.K1.Keeper.kept m n lent rest log c.args.k (omega (arith, w.if-at-log.false)) (omega (arith, w.if-at-self.true))
+      | then-at-log-via-else-at-log+else-at-self+then-log-at w ↦ own_sent g.K0.Keeper.kept g.K1.Keeper.kept m n lent rest log c.args.k _ (omega (arith, w.if-at-log.false)) (omega (arith, w.if-at-self.false)) w.if-log-at.true
     ])
     c.number-then-at-log.ensures
 
@@ -54,7 +54,7 @@ returns g c opening rest =
     let n = c.args.seat in
     let log = c.args.log.now in
     let b = memory g.K0.Keeper.kept g.K1.Keeper.kept m n lent rest (entries log) in
-    take_does g.K0.Keeper.kept g.K1.Keeper.kept a (record { fits = g.met.Input.InputKind.code_fits; reads_back = g.met.Input.InputKind.reads_back }) m c.take-by-answer.new.self n (omega arith) lent _ rest (entries log) c.take-by-answer.ensures.rest c.args.k _ c.take-by-answer.result (sym c.if-not-are-slots.ensures)
+    take_does g.K0.Keeper.kept g.K1.Keeper.kept a (record { fits = g.met.G.Input.InputKind.code_fits; reads_back = g.met.G.Input.InputKind.reads_back }) m c.take_by-answer.new.self n (omega arith) lent _ rest (entries log) c.take_by-answer.ensures.rest c.args.k _ c.take_by-answer.result (sym c.if-not-are_slots.ensures)
     (others_sent g.K0.Keeper.kept g.K1.Keeper.kept m n lent rest log c.args.k c.index-log-at.result (omega (arith, c.if-at-log.false)) (omega (arith, c.if-at-self.false)) c.if-log-at.false)
     (c.datagram.ensures ∙ datagram_is g.K0.Keeper.kept g.K1.Keeper.kept m n lent rest log c.args.k c.index-log-at-2.result c.index-log-at-2.is (omega (arith, c.if-at-log.false)))
-    c.take-by-answer.ensures.answer c.take-by-answer.ensures.leaves
+    c.take_by-answer.ensures.answer c.take_by-answer.ensures.leaves

@@ -27,7 +27,7 @@ returns g c =
     let m = c.args.self.now in
     let bytes = c.args.bytes.now in
     record {
-      answer = subst (λ s. c.take_answer.result ≡ take_answer (r s) (seat_view g.K0.Keeper.kept g.K1.Keeper.kept m s lent) bytes) (sym e) c.take_answer.ensures.answer;
-      leaves = at_seat g.K0.Keeper.kept g.K1.Keeper.kept m (record { first = c.take_answer.new.self; second = m.second; sent = m.sent }) c.args.second lent _ (λ s v. take_leaves (r s) v bytes) false e c.take_answer.ensures.leaves;
-      rest = subst (λ s. KeepsRest g.row.G-Input.Denot g.K0.Keeper.kept g.K1.Keeper.kept m (record { first = c.take_answer.new.self; second = m.second; sent = m.sent }) s) (sym e) (λ x. refl, refl);
+      answer = subst (λ s. c.take-answer.result ≡ take_answer (r s) (seat_view g.K0.Keeper.kept g.K1.Keeper.kept m s lent) bytes) (sym e) c.take-answer.ensures.answer;
+      leaves = at_seat g.K0.Keeper.kept g.K1.Keeper.kept m (record { first = c.take-answer.new.self; second = m.second; sent = m.sent }) c.args.second lent _ (λ s v. take_leaves (r s) v bytes) false e c.take-answer.ensures.leaves;
+      rest = subst (λ s. KeepsRest g.row.G-Input.Denot g.K0.Keeper.kept g.K1.Keeper.kept m (record { first = c.take-answer.new.self; second = m.second; sent = m.sent }) s) (sym e) (λ x. refl, refl);
     }
