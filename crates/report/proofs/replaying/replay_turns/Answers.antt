@@ -20,5 +20,5 @@ returns g c =
     let is = c.deref.ensures.value ∙ c.in-ok-lent.ensures in
     record {
       told = replay_told (rules a) (length c.args.log.now) c.args.turns.now c.deref.result.now c.in-ok-lines.lines c.rerun.new.told c.rerun.result is (c.rerun.auto.told ∙ c.deref-mut.ensures.len) c.in-ok-lines.ensures.len c.rerun.ensures.told;
-      log = log_as a c.args.first.match_number (slot_lists c.args.own-0.now c.args.other-0.now c.args.digests-0.now) (slot_lists c.args.own-1.now c.args.other-1.now c.args.digests-1.now) (entries c.args.log.now) (entries c.rerun.new.log) c.deref.result.now (map (lent_turn (length c.args.log.now)) c.args.turns.now) is c.rerun.ensures.log;
+      log = log_as a c.args.first.match_number (slot_lists c.args.own_0.now c.args.other_0.now c.args.digests_0.now) (slot_lists c.args.own_1.now c.args.other_1.now c.args.digests_1.now) (entries c.args.log.now) (entries c.rerun.new.log) c.deref.result.now (map (lent_turn (length c.args.log.now)) c.args.turns.now) is c.rerun.ensures.log;
     }
