@@ -1,6 +1,6 @@
 -- Codes and their bytes, two to each.
 use Rattle.std.proofs.Common.{◌≡◌, ℕ, zero, suc, ◌+◌, ◌*◌, ◌/◌, ◌%◌, ◌^◌, ◌<◌, List, [], ◌∷◌, ◌++◌, length, get_or, Some, refl, ap, arith}
-use Rattle.std.specs.List.{AllByRecursion as All, slice_get}
+use Rattle.std.specs.List.{AllByRecursion, slice_get}
 use Rattle.datagram.specs.Layout.{two_bytes, code_bytes}
 use Rattle.datagram.specs.Reading.{codes_of}
 use Rattle.datagram.proofs.Digits.{two_0, two_1, two_back}
@@ -30,7 +30,7 @@ code_bytes_push [] c = refl
 code_bytes_push (d ∷ cs) c = ap (λ bs. d % 256 ∷ d / 256 % 256 ∷ bs) (code_bytes_push cs c)
 
 -- codes that fit come back from their bytes
-pub codes_of_code_bytes : (cs : List ℕ) → All (λ c. c < 2 ^ 16) cs → codes_of (code_bytes cs) ≡ cs
+pub codes_of_code_bytes : (cs : List ℕ) → AllByRecursion (λ c. c < 2 ^ 16) cs → codes_of (code_bytes cs) ≡ cs
 codes_of_code_bytes [] h = refl
 codes_of_code_bytes (c ∷ cs) h =
     let here = two_back c h.0 in
@@ -38,7 +38,7 @@ codes_of_code_bytes (c ∷ cs) h =
     cc
 
 -- and so do bytes, where none is left over
-pub code_bytes_codes_of : (bs : List ℕ) → length bs % 2 ≡ 0 → All (λ b. b < 256) bs → code_bytes (codes_of bs) ≡ bs
+pub code_bytes_codes_of : (bs : List ℕ) → length bs % 2 ≡ 0 → AllByRecursion (λ b. b < 256) bs → code_bytes (codes_of bs) ≡ bs
 code_bytes_codes_of [] even h = refl
 code_bytes_codes_of (a ∷ []) even h = absurd (omega arith)
 code_bytes_codes_of (a ∷ b ∷ bs) even h =
@@ -47,11 +47,11 @@ code_bytes_codes_of (a ∷ b ∷ bs) even h =
     let ih = code_bytes_codes_of bs (omega arith) h.1.1 in
     cc
 
-pub codes_fit : (bs : List ℕ) → All (λ b. b < 256) bs → All (λ c. c < 2 ^ 16) (codes_of bs)
+pub codes_fit : (bs : List ℕ) → AllByRecursion (λ b. b < 256) bs → AllByRecursion (λ c. c < 2 ^ 16) (codes_of bs)
 codes_fit [] h = tt
 codes_fit (a ∷ []) h = tt
 codes_fit (a ∷ b ∷ bs) h = (omega (arith, h.0, h.1.0), codes_fit bs h.1.1)
 
-pub code_bytes_fit : (cs : List ℕ) → All (λ b. b < 256) (code_bytes cs)
+pub code_bytes_fit : (cs : List ℕ) → AllByRecursion (λ b. b < 256) (code_bytes cs)
 code_bytes_fit [] = tt
 code_bytes_fit (c ∷ cs) = (omega arith, (omega arith, code_bytes_fit cs))

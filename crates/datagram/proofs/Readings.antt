@@ -1,6 +1,6 @@
 -- What reading accepts, and that it is what writing gives.
 use Rattle.std.proofs.Common.{◌≡◌, ℕ, ◌+◌, ◌-◌, ◌*◌, ◌/◌, ◌%◌, ◌<◌, ◌≤◌, Bool, true, false, cond, List, [], ◌∷◌, ◌++◌, map, length, get_or, take, drop, set, is_ok, Ok, Err, Result, sym, refl, ap, ◌∙◌, subst, ⊎_elim, arith}
-use Rattle.std.specs.List.{AllByRecursion as All, range_with_len}
+use Rattle.std.specs.List.{AllByRecursion, range_with_len}
 use Rattle.interface.specs.declared.answers.Refusal.{Refusal}
 use Rattle.interface.specs.declared.answers.Refusal.TheVariants.{BadLength, BadMark, BadCheckWord, NotOurs}
 use Rattle.std.proofs.lemmas.List.FromFn.{fill_by_all}
@@ -87,8 +87,8 @@ read_back d f = sound_read (bytes_of d) (written_sound d f) ∙ ap Ok (written_f
 written_bytes : (d : Fields) → d.sender < 256 → length d.codes ≤ 32 → Bytes (bytes_of d)
 written_bytes d seat few k =
     let byte : ℕ → Type 0 = λ b. b < 256 in
-    let head : All byte (header_bytes d) = omega arith in
-    let word : All byte (two_bytes (check_word (body_bytes d))) = omega arith in
+    let head : AllByRecursion byte (header_bytes d) = omega arith in
+    let word : AllByRecursion byte (two_bytes (check_word (body_bytes d))) = omega arith in
     let all = All-append byte (body_bytes d) (two_bytes (check_word (body_bytes d))) (All-append byte (header_bytes d) (code_bytes d.codes) head (code_bytes_fit d.codes)) word in
     ⊎_elim
     (λ h. All-get_or byte (bytes_of d) k 0 h all)
@@ -137,7 +137,7 @@ module _ (bs : List ℕ) (s : Sound bs) (fit : Bytes bs) where
       let front = front_is 19 bs (omega arith) in
       rw front (λ i. sym s.mark_0 i ∷ sym s.mark_1 i ∷ sym s.mark_2 i ∷ sym version₀ i ∷ sym version₁ i ∷ get_or bs 5 0 ∷ number i ∷ number' i ∷ start i ∷ start' i ∷ count i ∷ acknowledgement i ∷ acknowledgement' i ∷ report i ∷ report' i ∷ digest₀ i ∷ digest₁ i ∷ digest₂ i ∷ digest₃ i ∷ [])
 
-  part_fits : All (λ b. b < 256) (codes_part bs)
+  part_fits : AllByRecursion (λ b. b < 256) (codes_part bs)
   part_fits =
       let n = part_length in
       All-from_get_or (λ b. b < 256) (codes_part bs) 0 (λ i h. let at = get_or-take (2 * get_or bs 10 0) (drop 19 bs) i 0 (omega arith) ∙ get_or-drop 19 bs i 0 in let b = fit (19 + i) in omega arith)

@@ -1,6 +1,6 @@
 -- What a datagram says, whatever holds it.
 use Rattle.std.specs.Prelude.{ℕ, ◌^◌, ◌<◌, ◌≤◌, List, length}
-use Rattle.std.specs.List.{AllByRecursion as All}
+use Rattle.std.specs.List.{AllByRecursion}
 use Rattle.interface.specs.Limits.{most_codes}
 
 pub record Fields : Type 0 where
@@ -28,4 +28,4 @@ pub record Fits (d : Fields) : Type 0 where
   pub sender : d.sender < 2
   pub numbers : HeaderFits d
   pub few : length d.codes ≤ most_codes
-  pub codes : All (λ c. c < 2 ^ 16) d.codes
+  pub codes : AllByRecursion (λ c. c < 2 ^ 16) d.codes

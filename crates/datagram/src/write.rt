@@ -1,6 +1,6 @@
 // A datagram as bytes.
 ghost use Rattle.std.specs.Prelude.{◌≡◌, ◌+◌, ◌*◌, ◌^◌, ◌<◌, ◌≤◌, ◌++◌, length, drop, OnOk};
-ghost use Rattle.std.specs.List.{AllByRecursion as All};
+ghost use Rattle.std.specs.List.{AllByRecursion};
 ghost use Rattle.datagram.specs.Fields.{HeaderFits};
 ghost use Rattle.datagram.specs.Layout.{two_bytes, four_bytes, header_bytes, code_bytes, bytes_of};
 ghost use Rattle.datagram.specs.Writing.{spliced, write_answer, write_leaves};
@@ -23,7 +23,7 @@ fn put(buffer: &mut [u8], at: usize, part: &[u8])
 fn put_codes(buffer: &mut [u8], at: usize, codes: &[u16])
     requires { at + 2 * length codes.now ≤ length buffer.old }
     ensures bytes { buffer.new ≡ spliced buffer.old at (code_bytes codes.now) }
-    ensures fits { All (λ c. c < 2 ^ 16) codes.now }
+    ensures fits { AllByRecursion (λ c. c < 2 ^ 16) codes.now }
 {
     for (k, code) in codes.iter().enumerate() {
         put(buffer, at + 2 * k, &two_bytes(*code));

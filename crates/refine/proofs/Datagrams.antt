@@ -1,6 +1,6 @@
 -- The datagram of a note: it stays the same, and it fits its bytes.
 use Rattle.std.proofs.Common.{◌≡◌, ℕ, zero, suc, ◌+◌, ◌-◌, ◌^◌, ◌<◌, ◌≤◌, Bool, true, false, List, [], ◌∷◌, map, length, sym, refl, ap, ◌∙◌, subst, arith}
-use Rattle.std.specs.List.{range_with_len, AllByRecursion as All}
+use Rattle.std.specs.List.{range_with_len, AllByRecursion}
 use Rattle.std.proofs.lemmas.List.FromFn.{length-map-range_with_len}
 use Rattle.interface.specs.Digest.{digest_of}
 use Rattle.interface.specs.Games.{State}
@@ -24,7 +24,7 @@ map_counting_same f g from (suc n) same =
     let rest = map_counting_same f g (from + 1) n (λ k low high. same k (omega arith) (omega arith)) in
     cc
 
-all_map : (f : ℕ → ℕ) (P : ℕ → Type 0) → ((k : ℕ) → P (f k)) → (ks : List ℕ) → All P (map f ks)
+all_map : (f : ℕ → ℕ) (P : ℕ → Type 0) → ((k : ℕ) → P (f k)) → (ks : List ℕ) → AllByRecursion P (map f ks)
 all_map f P each [] = tt
 all_map f P each (k ∷ ks) = (each k, all_map f P each ks)
 

@@ -1,6 +1,6 @@
 -- What a text is that reads without fault, and where a fault lies.
 use Rattle.std.proofs.Common.{◌≡◌, ℕ, zero, suc, ◌+◌, ◌<◌, ◌≤◌, ◌⊎◌, List, [], ◌∷◌, ◌++◌, map, length, get_or, take, Some, None, codes, sym, refl, ap, ◌∙◌, subst, inl, inr, ⊎_elim, arith}
-use Rattle.std.specs.List.{AllByRecursion as All}
+use Rattle.std.specs.List.{AllByRecursion}
 use Rattle.std.proofs.lemmas.List.{length-append}
 use Rattle.interface.specs.declared.answers.Refusal.{Refusal}
 use Rattle.interface.specs.declared.answers.Refusal.TheVariants.{BadLine, BadEnding, BadNumber}
@@ -57,15 +57,15 @@ exact_lines line at (p ∷ []) some h = tail_fault p _ _ h
 exact_lines line at (p ∷ q ∷ ps) some h = exact_line line at p q ps (read_lines (line + 1) (placed (at + length p + 1) (q ∷ ps))) (verdict (line_at p at)) refl (exact_lines (line + 1) (at + length p + 1) (q ∷ ps) (omega arith)) h
 
 -- every turn read fits
-fits_line : (line at k : ℕ) (p : List ℕ) (r o : Rest) (v : Verdict) → verdict (line_at p at) ≡ v → All TurnFits r.turns → o.turns ≡ [] → All TurnFits (judged v line k r o).turns
+fits_line : (line at k : ℕ) (p : List ℕ) (r o : Rest) (v : Verdict) → verdict (line_at p at) ≡ v → AllByRecursion TurnFits r.turns → o.turns ≡ [] → AllByRecursion TurnFits (judged v line k r o).turns
 fits_line line at k p r o (Turn t) e ih h = ((turn_line at p t e).1, ih)
-fits_line line at k p r o End e ih h = subst (All TurnFits) (sym h) tt
+fits_line line at k p r o End e ih h = subst (AllByRecursion TurnFits) (sym h) tt
 fits_line line at k p r o Misshapen e ih h = tt
 fits_line line at k p r o (NoNumber i) e ih h = tt
 
-pub fits_lines : (line at : ℕ) (ps : List (List ℕ)) → All TurnFits (read_lines line (placed at ps)).turns
+pub fits_lines : (line at : ℕ) (ps : List (List ℕ)) → AllByRecursion TurnFits (read_lines line (placed at ps)).turns
 fits_lines line at [] = tt
-fits_lines line at (p ∷ []) = subst (All TurnFits) (sym (tail_turns p (stopped BadEnding line at) (stopped (out_of_place (verdict (line_at p at))) line at) refl refl)) tt
+fits_lines line at (p ∷ []) = subst (AllByRecursion TurnFits) (sym (tail_turns p (stopped BadEnding line at) (stopped (out_of_place (verdict (line_at p at))) line at) refl refl)) tt
 fits_lines line at (p ∷ q ∷ ps) = fits_line line at at p _ _ (verdict (line_at p at)) refl (fits_lines (line + 1) (at + length p + 1) (q ∷ ps)) (end_turns (line + 1) (placed (at + length p + 1) (q ∷ ps)))
 
 -- 3. Where a fault lies.

@@ -1,6 +1,6 @@
 -- Reading what was written, and writing what was read.
 use Rattle.std.proofs.Common.{◌≡◌, ℕ, ◌+◌, ◌<◌, Bool, true, false, eqb, List, [], ◌∷◌, ◌++◌, map, length, Some, None, codes, refl, ap, ◌∙◌, arith}
-use Rattle.std.specs.List.{AllByRecursion as All}
+use Rattle.std.specs.List.{AllByRecursion}
 use Rattle.std.proofs.lemmas.List.{append_assoc, length-append}
 use Rattle.trace.specs.declared.forms.GameName.{GameName}
 use Rattle.trace.specs.declared.forms.GameName.TheVariants.{Duel, Speed}
@@ -43,7 +43,7 @@ some_lines ls l ms = simp length-append (omega arith)
 
 -- 1. What was written reads back.
 
-read_back : (line at : ℕ) (ts : List TraceTurn) → All TurnFits ts → read_lines line (placed at (map turn_text ts ++ last_lines)) ≡ record { turns = ts; fault = None }
+read_back : (line at : ℕ) (ts : List TraceTurn) → AllByRecursion TurnFits ts → read_lines line (placed at (map turn_text ts ++ last_lines)) ≡ record { turns = ts; fault = None }
 read_back line at [] h = refl
 read_back line at (t ∷ ts) h =
     turn_more line at (turn_text t) t (map turn_text ts ++ last_lines) (record { turns = ts; fault = None }) (some_lines (map turn_text ts) (codes "end") ([] ∷ [])) (turn_reads t at h.0) (read_back (line + 1) (at + length (turn_text t) + 1) ts h.1)
@@ -53,7 +53,7 @@ free_append : (s : ℕ) (v w : List ℕ) → Free s v → Free s w → Free s (v
 free_append s [] w h k = k
 free_append s (b ∷ v) w h k = (h.0, free_append s v w h.1 k)
 
-free_join : (s sep : ℕ) (ws : List (List ℕ)) → eqb sep s ≡ false → All (Free s) ws → Free s (joined_by sep ws)
+free_join : (s sep : ℕ) (ws : List (List ℕ)) → eqb sep s ≡ false → AllByRecursion (Free s) ws → Free s (joined_by sep ws)
 free_join s sep [] e h = tt
 free_join s sep (w ∷ []) e h = h.0
 free_join s sep (w ∷ v ∷ ws) e h = free_append s w (sep ∷ joined_by sep (v ∷ ws)) h.0 (e, free_join s sep (v ∷ ws) e h.1)
@@ -66,7 +66,7 @@ game_free : (g : GameName) → Free line_feed (game_word g)
 game_free Duel = (refl, (refl, (refl, (refl, tt))))
 game_free Speed = (refl, (refl, (refl, (refl, (refl, tt)))))
 
-call_free : (b : Bool) (call : TraceCall) → CallFits call → All (Free line_feed) (call_words (seat_word b) call)
+call_free : (b : Bool) (call : TraceCall) → CallFits call → AllByRecursion (Free line_feed) (call_words (seat_word b) call)
 call_free b (Press n) h = ((refl, (refl, (refl, (refl, (refl, tt))))), (seat_free b, (decimal_free line_feed n (omega arith) (omega arith), tt)))
 call_free b Send h = ((refl, (refl, (refl, (refl, tt)))), (seat_free b, tt))
 call_free b (Take n) h = ((refl, (refl, (refl, (refl, tt)))), (seat_free b, (decimal_free line_feed n (omega arith) (omega arith), tt)))
@@ -77,7 +77,7 @@ first_free f h =
     let few = h.seed in
     free_join line_feed space (first_words f) refl ((refl, (refl, (refl, tt))), ((refl, tt), (game_free f.game, (decimal_free line_feed f.match_number (omega arith) (omega arith), (decimal_free line_feed f.seed (omega arith) (omega arith), tt)))))
 
-turns_free : (ts : List TraceTurn) → All TurnFits ts → All (Free line_feed) (map turn_text ts ++ codes "end" ∷ [])
+turns_free : (ts : List TraceTurn) → AllByRecursion TurnFits ts → AllByRecursion (Free line_feed) (map turn_text ts ++ codes "end" ∷ [])
 turns_free [] h = ((refl, (refl, (refl, tt))), tt)
 turns_free (t ∷ ts) h = (free_join line_feed space (turn_words t) refl (call_free t.seat t.call h.0), turns_free ts h.1)
 
@@ -86,7 +86,7 @@ pub first_more : (p : Piece) (at : ℕ) (ps : List (List ℕ)) → 0 < length ps
 first_more p at [] h = absurd (omega arith)
 first_more p at (q ∷ ps) h = refl
 
-pub written_reads : (f : First) (ts : List TraceTurn) → FirstFits f → All TurnFits ts → read_text (text_of f ts) ≡ says_all (Some f) ts
+pub written_reads : (f : First) (ts : List TraceTurn) → FirstFits f → AllByRecursion TurnFits ts → read_text (text_of f ts) ≡ says_all (Some f) ts
 written_reads f ts hf hs =
     let l = line_of (first_words f) in
     let rest = map turn_text ts ++ last_lines in

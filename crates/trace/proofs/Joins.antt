@@ -1,6 +1,6 @@
 -- Pieces put together, and parted again.
 use Rattle.std.proofs.Common.{◌≡◌, ℕ, zero, suc, ◌<◌, Bool, true, false, cond, eqb, List, [], ◌∷◌, ◌++◌, length, take, sym, refl, ap, ◌∙◌, arith}
-use Rattle.std.specs.List.{AllByRecursion as All}
+use Rattle.std.specs.List.{AllByRecursion}
 use Rattle.std.proofs.lemmas.Bool.{eqb-true, eq-eqb}
 use Rattle.trace.specs.Pieces.{line_feed, begin, pieces, joined_by}
 use Rattle.trace.specs.Writing.{ended_lines}
@@ -8,7 +8,7 @@ use Rattle.trace.proofs.Splits.{onto, onto_none}
 
 -- no byte of the list parts it
 abbrev pub Free : ℕ → List ℕ → Type 0
-Free s w = All (λ b. eqb b s ≡ false) w
+Free s w = AllByRecursion (λ b. eqb b s ≡ false) w
 
 pub some_pieces : (ps : List (List ℕ)) → ps ≡ onto [] ps → 0 < length ps
 some_pieces [] e = let z : ◌≡◌ {A = ℕ} 0 1 = cc in absurd (omega arith)
@@ -44,28 +44,28 @@ pub pieces_first : (s : ℕ) (w bs : List ℕ) → Free s w → pieces s (w ++ s
 pieces_first s [] bs h = ap (λ t. cond t ([] ∷ pieces s bs) (begin s (pieces s bs))) (eq-eqb s s refl)
 pieces_first s (b ∷ w) bs h = ap (λ t. cond t ([] ∷ pieces s (w ++ s ∷ bs)) (begin b (pieces s (w ++ s ∷ bs)))) h.0 ∙ ap (begin b) (pieces_first s w bs h.1)
 
-pub pieces_join : (s : ℕ) (w : List ℕ) (ws : List (List ℕ)) → Free s w → All (Free s) ws → pieces s (joined_by s (w ∷ ws)) ≡ w ∷ ws
+pub pieces_join : (s : ℕ) (w : List ℕ) (ws : List (List ℕ)) → Free s w → AllByRecursion (Free s) ws → pieces s (joined_by s (w ∷ ws)) ≡ w ∷ ws
 pieces_join s w [] h hs = pieces_lone s w h
 pieces_join s w (v ∷ ws) h hs = pieces_first s w (joined_by s (v ∷ ws)) h ∙ ap (λ x. w ∷ x) (pieces_join s v ws hs.0 hs.1)
 
-pub pieces_lines : (ls : List (List ℕ)) → All (Free line_feed) ls → pieces line_feed (ended_lines ls) ≡ ls ++ [] ∷ []
+pub pieces_lines : (ls : List (List ℕ)) → AllByRecursion (Free line_feed) ls → pieces line_feed (ended_lines ls) ≡ ls ++ [] ∷ []
 pieces_lines [] h = refl
 pieces_lines (l ∷ ls) h = pieces_first line_feed l (ended_lines ls) h.0 ∙ ap (λ x. l ∷ x) (pieces_lines ls h.1)
 
 -- no piece has a byte that parts
-free_begin : (s b : ℕ) (ps : List (List ℕ)) → eqb b s ≡ false → All (Free s) ps → All (Free s) (begin b ps)
+free_begin : (s b : ℕ) (ps : List (List ℕ)) → eqb b s ≡ false → AllByRecursion (Free s) ps → AllByRecursion (Free s) (begin b ps)
 free_begin s b [] e h = ((e, tt), tt)
 free_begin s b (p ∷ ps) e h = ((e, h.0), h.1)
 
-free_at : (t : Bool) (s b : ℕ) (ps : List (List ℕ)) → (t ≡ false → eqb b s ≡ false) → All (Free s) ps → All (Free s) (cond t ([] ∷ ps) (begin b ps))
+free_at : (t : Bool) (s b : ℕ) (ps : List (List ℕ)) → (t ≡ false → eqb b s ≡ false) → AllByRecursion (Free s) ps → AllByRecursion (Free s) (cond t ([] ∷ ps) (begin b ps))
 free_at true s b ps e h = (tt, h)
 free_at false s b ps e h = free_begin s b ps (e refl) h
 
-pub pieces_free : (s : ℕ) (bs : List ℕ) → All (Free s) (pieces s bs)
+pub pieces_free : (s : ℕ) (bs : List ℕ) → AllByRecursion (Free s) (pieces s bs)
 pieces_free s [] = (tt, tt)
 pieces_free s (b ∷ bs) = free_at (eqb b s) s b (pieces s bs) (λ e. e) (pieces_free s bs)
 
-pub free_take : (s n : ℕ) (ps : List (List ℕ)) → All (Free s) ps → All (Free s) (take n ps)
+pub free_take : (s n : ℕ) (ps : List (List ℕ)) → AllByRecursion (Free s) ps → AllByRecursion (Free s) (take n ps)
 free_take s zero ps h = tt
 free_take s (suc n) [] h = tt
 free_take s (suc n) (p ∷ ps) h = (h.0, free_take s n ps h.1)

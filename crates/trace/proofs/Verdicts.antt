@@ -1,7 +1,7 @@
 -- A line that was written, and a line that is read.
 use Rattle.std.proofs.Common.{◌≡◌, ℕ, ◌+◌, ◌^◌, ◌<◌, ◌≤◌, Bool, true, false, cond, eqb, leb, List, [], ◌∷◌, map, length, Some, None, codes, decimal, Option, sym, refl, ap, ◌∙◌, arith}
 use Rattle.std.specs.Option.{option_map}
-use Rattle.std.specs.List.{AllByRecursion as All}
+use Rattle.std.specs.List.{AllByRecursion}
 use Rattle.std.proofs.lemmas.Slice.Eq.{bytes_eq-Decides}
 use Rattle.std.proofs.lemmas.Bool.{le-leb, leb-true, eqb-true, eqb-false}
 use Rattle.std.proofs.lemmas.Fmt.{decimal_digit}
@@ -22,7 +22,7 @@ use Rattle.trace.proofs.Joins.{Free, pieces_join}
 use Rattle.trace.proofs.Decimals.{number_decimal, decimal_number, decimal_free}
 
 -- the words of a line that was put together
-pub words_joined : (at : ℕ) (w : List ℕ) (ws : List (List ℕ)) → Free space w → All (Free space) ws → words (record { bytes = line_of (w ∷ ws); at = at }) ≡ map lexeme (placed at (w ∷ ws))
+pub words_joined : (at : ℕ) (w : List ℕ) (ws : List (List ℕ)) → Free space w → AllByRecursion (Free space) ws → words (record { bytes = line_of (w ∷ ws); at = at }) ≡ map lexeme (placed at (w ∷ ws))
 words_joined at w ws h hs = ap (λ x. map lexeme (placed at x)) (pieces_join space w ws h hs)
 
 seat_free : (s : ℕ) (b : Bool) → eqb 48 s ≡ false → eqb 49 s ≡ false → Free s (seat_word b)

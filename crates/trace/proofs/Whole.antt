@@ -1,6 +1,6 @@
 -- The laws of a whole text.
 use Rattle.std.proofs.Common.{◌≡◌, ℕ, zero, suc, ◌+◌, ◌-◌, ◌<◌, ◌≤◌, Bool, true, false, cond, eqb, ◌⊎◌, List, [], ◌∷◌, ◌++◌, map, length, get_or, take, Some, None, codes, Option, sym, refl, ap, ◌∙◌, subst, inl, inr, ⊎_elim, arith}
-use Rattle.std.specs.List.{AllByRecursion as All}
+use Rattle.std.specs.List.{AllByRecursion}
 use Rattle.std.proofs.ByRecursion.{All-append}
 use Rattle.std.proofs.lemmas.List.{append_assoc, length-append}
 use Rattle.interface.specs.declared.answers.Refusal.TheVariants.{BadFirstLine, BadNumber}
@@ -41,7 +41,7 @@ some_first : (o : Option First) (r : Rest) → (reading o r).fault ≡ None → 
 some_first None r e = none_fault _ e
 some_first (Some f) r e = (f, refl)
 
-turns_fit : (o : Option First) (r : Rest) → All TurnFits r.turns → All TurnFits (reading o r).turns
+turns_fit : (o : Option First) (r : Rest) → AllByRecursion TurnFits r.turns → AllByRecursion TurnFits (reading o r).turns
 turns_fit None r h = tt
 turns_fit (Some f) r h = h
 
@@ -67,7 +67,7 @@ some_pieces [] e = none_fault _ e
 some_pieces (p ∷ []) e = none_fault _ e
 some_pieces (p ∷ q ∷ qs) e = some_first (first_of (words (line_at p 0))) (after_first p (q ∷ qs)) e
 
-fits_pieces : (ps : List (List ℕ)) → All TurnFits (read_pieces (placed 0 ps)).turns
+fits_pieces : (ps : List (List ℕ)) → AllByRecursion TurnFits (read_pieces (placed 0 ps)).turns
 fits_pieces [] = tt
 fits_pieces (p ∷ []) = tt
 fits_pieces (p ∷ q ∷ qs) = turns_fit (first_of (words (line_at p 0))) (after_first p (q ∷ qs)) (fits_lines 2 (0 + length p + 1) (q ∷ qs))
@@ -129,8 +129,8 @@ module _ (text : List ℕ) (ps : List (List ℕ)) (e : pieces line_feed text ≡
       let before : x.line - 1 ≡ k = omega arith in
       ap (λ y. ended_lines (take (x.line - 1) y)) e ∙ ap (λ m. ended_lines (take m ps)) before
 
-  free_front : (k : ℕ) → All (Free line_feed) (take k ps)
-  free_front k = free_take line_feed k ps (subst (All (Free line_feed)) e (pieces_free line_feed text))
+  free_front : (k : ℕ) → AllByRecursion (Free line_feed) (take k ps)
+  free_front k = free_take line_feed k ps (subst (AllByRecursion (Free line_feed)) e (pieces_free line_feed text))
 
 -- a bad first line
 bad_first : (text : List ℕ) (ps : List (List ℕ)) (x : Fault) → pieces line_feed text ≡ ps → 0 < length ps → no_first.fault ≡ Some x → Lies text x

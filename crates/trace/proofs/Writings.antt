@@ -2,7 +2,7 @@
 use Rattle.std.proofs.Common.{◌≡◌, ℕ, ◌+◌, ◌<◌, ◌≤◌, List, [], ◌∷◌, ◌++◌, map, length, get_or, take, IfOk, Ok, Err, codes, decimal, Result, sym, refl, ap, ◌∙◌, subst}
 use Rattle.std.proofs.lemmas.List.{append_assoc, take_all, take_more, map_more}
 use Rattle.std.proofs.ByRecursion.{All-append}
-use Rattle.std.specs.List.{AllByRecursion as All}
+use Rattle.std.specs.List.{AllByRecursion}
 use Rattle.trace.specs.Laws.{TurnFits}
 use Rattle.trace.specs.declared.forms.GameName.TheVariants.{Duel, Speed}
 use Rattle.trace.specs.declared.forms.First.{First}
@@ -29,8 +29,8 @@ lines_more before ts i t d bs line after h et eb el ea =
     let lines : ended_lines (map f (take (i + 1) ts)) ≡ ended_lines (map f (take i ts)) ++ (f t ++ line_feed ∷ []) = ap ended_lines more ∙ ended_append (map f (take i ts)) (f t ∷ []) in
     ea ∙ ap (λ x. x ++ line) eb ∙ ap (λ x. before ++ ended_lines (map f (take i ts)) ++ x) el ∙ append_assoc before (ended_lines (map f (take i ts))) (f t ++ line_feed ∷ []) ∙ ap (λ x. before ++ x) (sym lines)
 
-pub fits_more : (ts : List TraceTurn) (i : ℕ) (d : TraceTurn) → i < length ts → All TurnFits (take i ts) → TurnFits (get_or ts i d) → All TurnFits (take (i + 1) ts)
-fits_more ts i d h all one = subst (All TurnFits) (sym (take_more ts i d h)) (All-append TurnFits (take i ts) (get_or ts i d ∷ []) all (one, tt))
+pub fits_more : (ts : List TraceTurn) (i : ℕ) (d : TraceTurn) → i < length ts → AllByRecursion TurnFits (take i ts) → TurnFits (get_or ts i d) → AllByRecursion TurnFits (take (i + 1) ts)
+fits_more ts i d h all one = subst (AllByRecursion TurnFits) (sym (take_more ts i d h)) (All-append TurnFits (take i ts) (get_or ts i d ∷ []) all (one, tt))
 
 -- all lines, and the last
 pub lines_all : (f : First) (ts : List TraceTurn) (i : ℕ) (before bs after : List ℕ) → length ts ≤ i → before ≡ line_of (first_words f) ++ line_feed ∷ [] → bs ≡ before ++ ended_lines (map (λ u. line_of (turn_words u)) (take i ts)) → after ≡ bs ++ codes "end\n" → after ≡ text_of f ts

@@ -1,6 +1,6 @@
 // A trace as text.
 ghost use Rattle.std.specs.Prelude.{◌≡◌, [], ◌∷◌, ◌++◌, IfOk, Some, string_bytes, codes, OnOk};
-ghost use Rattle.std.specs.List.{AllByRecursion as All};
+ghost use Rattle.std.specs.List.{AllByRecursion};
 ghost use Rattle.trace.specs.Pieces.{line_feed};
 ghost use Rattle.trace.specs.Reading.{read_text};
 ghost use Rattle.trace.specs.Laws.{TurnFits, FirstFits, says_all};
@@ -44,7 +44,7 @@ fn turn_text(turn: TraceTurn, heap: Global) -> Result<String, AllocError>
 // The lines one after another.
 fn write_lines(first: First, turns: &[TraceTurn], heap: Global) -> Result<Vec<u8>, AllocError>
     ensures text { IfOk result (λ v. v.items ≡ text_of first turns.now) }
-    ensures fits { OnOk result (FirstFits first × All TurnFits turns.now) }
+    ensures fits { OnOk result (FirstFits first × AllByRecursion TurnFits turns.now) }
 {
     let mut text = first_text(first, heap)?;
     for turn in turns {

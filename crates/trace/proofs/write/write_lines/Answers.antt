@@ -1,5 +1,5 @@
 use Rattle.std.proofs.Common.{false, ◌++◌, vec_items, string_bytes, refl, ap, ◌∙◌, subst}
-use Rattle.std.specs.List.{AllByRecursion as All}
+use Rattle.std.specs.List.{AllByRecursion}
 use Rattle.std.proofs.lemmas.List.{take_all}
 use Rattle.trace.specs.Laws.{TurnFits}
 use Rattle.trace.specs.declared.forms.TraceCall.TheVariants.{Press}
@@ -17,5 +17,5 @@ loop-turn-preserved c =
 pub returns : goal.returns
 returns c = record {
   text = ap vec_items c.into_bytes.ensures.value ∙ lines_all c.args.first c.args.turns.now c.loop-turn.turn-index (string_bytes c.in_ok-text.text) (string_bytes c.loop-turn.text) _ c.loop-turn-test.false c.in_ok-text.ensures.line c.loop-turn.invariant.0 c.in_ok-push_str-2.ensures.bytes;
-  fits = (c.in_ok-text.ensures.fits, subst (All TurnFits) (take_all c.loop-turn.turn-index c.args.turns.now c.loop-turn-test.false) c.loop-turn.invariant.1);
+  fits = (c.in_ok-text.ensures.fits, subst (AllByRecursion TurnFits) (take_all c.loop-turn.turn-index c.args.turns.now c.loop-turn-test.false) c.loop-turn.invariant.1);
 }

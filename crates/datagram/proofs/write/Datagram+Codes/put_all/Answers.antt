@@ -1,5 +1,5 @@
 use Rattle.std.proofs.Common.{◌+◌, ◌*◌, ◌^◌, ◌<◌, length, ap, ◌∙◌, subst, arith, rules}
-use Rattle.std.specs.List.{AllByRecursion as All}
+use Rattle.std.specs.List.{AllByRecursion}
 use Rattle.datagram.specs.Layout.{two_bytes, code_bytes}
 use Rattle.datagram.specs.Meanings.{fields_of}
 use Rattle.datagram.specs.Writing.{spliced}
@@ -18,5 +18,5 @@ returns c =
     let whole = all_put d old _ _ _ _ _ (ap (λ n. 19 + 2 * n) count) first second (search rules) third in
     record {
       bytes = whole;
-      readable = put_readable d old _ (λ seat. record { sender = seat; numbers = c.header.ensures.fits; few = omega arith; codes = subst (All (λ n. n < 2 ^ 16)) same c.put_codes.ensures.fits }) whole;
+      readable = put_readable d old _ (λ seat. record { sender = seat; numbers = c.header.ensures.fits; few = omega arith; codes = subst (AllByRecursion (λ n. n < 2 ^ 16)) same c.put_codes.ensures.fits }) whole;
     }
