@@ -5,6 +5,6 @@ use Rattle.report.proofs.games.replay_duel.Goals as goal
 pub returns : goal.returns
 returns c =
     record {
-      told = c.replay-turns.ensures.told;
-      log = log_either (duel_setup c.args.first.seed) c.args.first.match_number c.idle-idle.result c.idle-idle.ensures c.args.log.now c.args.turns.now c.replay-turns.result c.replay-turns.new.log c.replay-turns.ensures.log;
+      told = c.replay_turns.ensures.told;
+      log = log_either (duel_setup c.args.first.seed) c.args.first.match_number c.idle-idle.result c.idle-idle.ensures c.args.log.now c.args.turns.now c.replay_turns.result c.replay_turns.new.log c.replay_turns.ensures.log;
     }

@@ -12,8 +12,8 @@ returns g c =
     let x = slot_lists c.args.own_0.now c.args.other_0.now c.args.digests_0.now in
     let y = slot_lists c.args.own_1.now c.args.other_1.now c.args.digests_1.now in
     record {
-      told = reran a c.args.match_number x y c.args.log.now c.requires.whole-0 c.requires.whole-1 c.args.turns.now c.args.told.now c.play.new.told _ c.in-Ok.ensures.leaves c.in-Ok.ensures.promise (c.end-of.result, c.end-of-2.result)
-          (end_as g.K0.Keeper.kept _ c.in-Ok.game.first c.play.new.first.0 c.play.new.first.1.0 c.play.new.first.1.1.0 c.end-of.result c.first.ensures (c.end-of.ensures [] [] []))
-          (end_as g.K1.Keeper.kept _ c.in-Ok.game.second c.play.new.second.0 c.play.new.second.1.0 c.play.new.second.1.1.0 c.end-of-2.result c.second.ensures (c.end-of-2.ensures [] [] []));
+      told = reran a c.args.match_number x y c.args.log.now c.requires.whole_0 c.requires.whole_1 c.args.turns.now c.args.told.now c.play.new.told _ c.in-Ok.ensures.leaves c.in-Ok.ensures.promise (c.end_of.result, c.end_of-2.result)
+          (end_as g.K0.Keeper.kept _ c.in-Ok.game.first c.play.new.first.0 c.play.new.first.1.0 c.play.new.first.1.1.0 c.end_of.result c.first.ensures (c.end_of.ensures [] [] []))
+          (end_as g.K1.Keeper.kept _ c.in-Ok.game.second c.play.new.second.0 c.play.new.second.1.0 c.play.new.second.1.1.0 c.end_of-2.result c.second.ensures (c.end_of-2.ensures [] [] []));
       log = ap (λ k. k.log) c.in-Ok.ensures.leaves.leaves;
     }

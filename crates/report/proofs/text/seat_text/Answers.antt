@@ -5,4 +5,4 @@ use Rattle.report.proofs.text.seat_text.Goals as goal
 pub returns : goal.returns
 returns c =
     let x = c.args.seat in
-    seat_words (decimal c.args.number) (decimal x.end.played) (decimal x.end.known) (decimal x.end.acknowledged) (decimal x.end.confirmed) (decimal x.end.digest) (decimal x.replayed) (string_bytes c.in-ok-text.text) (string_bytes c.in-ok-rest.rest) (string_bytes c.push-str.new.self) c.in-ok-text.ensures c.in-ok-rest.ensures.ok (c.in-ok-push-str.ensures.bytes ∙ ap (λ y. string_bytes c.in-ok-text.text ++ y) c.deref.ensures)
+    seat_words (decimal c.args.number) (decimal x.end.played) (decimal x.end.known) (decimal x.end.acknowledged) (decimal x.end.confirmed) (decimal x.end.digest) (decimal x.replayed) (string_bytes c.in_ok-text.text) (string_bytes c.in_ok-rest.rest) (string_bytes c.push_str.new.self) c.in_ok-text.ensures c.in_ok-rest.ensures.ok (c.in_ok-push_str.ensures.bytes ∙ ap (λ y. string_bytes c.in_ok-text.text ++ y) c.deref.ensures)
