@@ -1,25 +1,21 @@
 -- What a call does, from what its code left.
-use Rattle.std.proofs.Common.{◌≡◌, ℕ, ◌+◌, ◌<◌, ◌≤◌, Bool, true, false, cond, not, ◌&&◌, ltb, leb, List, [], ◌∷◌, length, get_or, set, Some, None, sym, refl, ap, ◌∙◌, subst, ⊎_elim, arith}
-use mathlib.Core.Bool.{beq}
-use Rattle.std.proofs.lemmas.Bool.{lt-ltb, le-ltb, le-leb, lt-leb, cases_Bool, cond-true, cond-false}
-use Rattle.std.proofs.lemmas.List.{length-map, get_or-map, map-set, set-get_or}
+use Rattle.std.proofs.Common.{◌≡◌, ℕ, ◌<◌, ◌≤◌, Bool, true, false, cond, ◌&&◌, ltb, List, Some, None, sym, refl, ap, ◌∙◌, subst}
+use Rattle.std.proofs.lemmas.Bool.{lt-ltb, le-ltb}
 use Rattle.interface.specs.Keepers.{Kept}
-use Rattle.interface.specs.Answers.{accepted, number_of}
+use Rattle.interface.specs.Answers.{number_of}
 use Rattle.interface.specs.declared.answers.Refusal.{Refusal}
-use Rattle.interface.specs.declared.answers.Refusal.TheVariants.{NoSuchDatagram, LogFull, BadFrame, NoSuchSeat}
+use Rattle.interface.specs.declared.answers.Refusal.TheVariants.{BadFrame, NoSuchSeat}
 use Rattle.frames.specs.Queue.{whole}
-use Rattle.plain.specs.Match.{other, unless_refused}
+use Rattle.plain.specs.Match.{other}
 use Rattle.seat.specs.Views.{View, rightly_lent}
 use Rattle.seat.specs.Calls as calls
 use Rattle.refine.specs.Setup.{Setup, setting_of, Lawful}
-use Rattle.refine.specs.Memory.{Entry, SlotLists, Memory, seat, entry, datagram, no_entry, record_bytes}
-use Rattle.refine.specs.Outcomes.{Call, Pressing, Sending, Taking, Outcome, outcome, numbered, log_check, result}
+use Rattle.refine.specs.Memory.{Entry, SlotLists, Memory, seat, entry, datagram}
+use Rattle.refine.specs.Outcomes.{Call, Pressing, Taking, Outcome, outcome, numbered, log_check, result}
 use Rattle.refine.specs.Standing.{HasRoom}
 use Rattle.refine.proofs.Calling.{keeps_standing}
-use Rattle.refine.proofs.Results.{no_such_seat, bad_slots, check_log, result_refused, press_result, take_result, send_result, send_result_refused, send_accepted, send_refused}
-use Rattle.match_engine.specs.declared.log.Record.{Record}
+use Rattle.refine.proofs.Results.{no_such_seat, bad_slots, check_log, result_refused, press_result, take_result}
 use Rattle.match_engine.specs.declared.state.Match.{Match}
-use Rattle.match_engine.specs.Log.{entry_of, entries, sent_entry}
 use Rattle.match_engine.specs.Calls.{Does}
 use Rattle.match_engine.specs.Meaning.{seat_view, whole_memory, memory, KeepsRest}
 

@@ -1,29 +1,27 @@
 -- The checks of the log, and what a send does.
-use Rattle.std.proofs.Common.{◌≡◌, ℕ, zero, suc, ◌+◌, ◌<◌, ◌≤◌, Bool, true, false, cond, not, ◌&&◌, ltb, leb, List, [], ◌∷◌, length, get_or, set, Some, None, sym, refl, ap, ◌∙◌, subst, ⊎_elim, arith}
+use Rattle.std.proofs.Common.{◌≡◌, ℕ, zero, suc, ◌+◌, ◌<◌, ◌≤◌, Bool, true, false, ◌&&◌, leb, List, [], ◌∷◌, length, get_or, set, Some, None, sym, refl, ap, ◌∙◌, arith}
 use mathlib.Core.Bool.{beq}
-use Rattle.std.proofs.lemmas.Bool.{lt-ltb, le-ltb, le-leb, lt-leb, cases_Bool, cond-true, cond-false}
+use Rattle.std.proofs.lemmas.Bool.{le-leb, lt-leb, cond-true, cond-false}
 use Rattle.std.proofs.lemmas.List.{length-map, get_or-map, map-set, set-get_or}
 use Rattle.interface.specs.Keepers.{Kept}
-use Rattle.interface.specs.Answers.{accepted, number_of}
-use Rattle.interface.specs.declared.answers.Refusal.{Refusal}
-use Rattle.interface.specs.declared.answers.Refusal.TheVariants.{NoSuchDatagram, LogFull, BadFrame, NoSuchSeat}
+use Rattle.interface.specs.Answers.{accepted}
+use Rattle.interface.specs.declared.answers.Refusal.TheVariants.{NoSuchDatagram, LogFull}
 use Rattle.frames.specs.Queue.{whole}
 use Rattle.plain.specs.Match.{other, unless_refused}
 use Rattle.rollback.specs.Inputs.{Setting}
-use Rattle.seat.specs.Views.{View, rightly_lent}
+use Rattle.seat.specs.Views.{View}
 use Rattle.seat.specs.Calls as calls
 use Rattle.refine.specs.Setup.{Setup, setting_of, Lawful}
 use Rattle.refine.specs.Memory.{Entry, SlotLists, Memory, seat, entry, datagram, no_entry, record_bytes}
-use Rattle.refine.specs.Outcomes.{Call, Pressing, Sending, Taking, Outcome, outcome, numbered, log_check, result}
+use Rattle.refine.specs.Outcomes.{Sending, Taking, outcome, numbered, log_check}
 use Rattle.refine.specs.Standing.{HasRoom}
-use Rattle.refine.proofs.Calling.{keeps_standing}
-use Rattle.refine.proofs.Results.{no_such_seat, bad_slots, check_log, result_refused, press_result, take_result, send_result, send_result_refused, send_accepted, send_refused}
+use Rattle.refine.proofs.Results.{send_result, send_result_refused, send_accepted, send_refused}
 use Rattle.match_engine.specs.declared.log.Record.{Record}
 use Rattle.match_engine.specs.declared.state.Match.{Match}
 use Rattle.match_engine.specs.Log.{entry_of, entries, sent_entry}
 use Rattle.match_engine.specs.Calls.{Does}
 use Rattle.match_engine.proofs.Doing.{does, not_above, acting, waiting, lent_whole}
-use Rattle.match_engine.specs.Meaning.{seat_view, whole_memory, memory, KeepsRest}
+use Rattle.match_engine.specs.Meaning.{seat_view, memory}
 
 -- every record has room for any datagram
 pub all_roomy : (log : List Record) (k : ℕ) → k < length (entries log) → length (get_or (entries log) k no_entry).bytes ≡ record_bytes

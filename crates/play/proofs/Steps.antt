@@ -5,7 +5,7 @@ use Rattle.seat.specs.Views.{View}
 use Rattle.refine.specs.Setup.{Setup}
 use Rattle.refine.specs.Memory.{Entry, SlotLists, Memory, seat}
 use Rattle.refine.specs.Outcomes.{numbered}
-use Rattle.refine.specs.Plays.{Step, Told}
+use Rattle.refine.specs.Plays.{Step}
 use Rattle.refine.specs.Matches.{next, step_result, told}
 use Rattle.match_engine.specs.declared.state.Match.{Match}
 use Rattle.match_engine.specs.Meaning.{seat_view, whole_memory, memory}

@@ -1,5 +1,5 @@
 -- A whole list of turns on a fresh match.
-use Rattle.std.proofs.Common.{◌≡◌, ℕ, ◌^◌, ◌<◌, ◌≤◌, Bool, true, false, ◌&&◌, eqb, List, ◌++◌, map, length, take, drop, set, None, sym, refl, ap, ◌∙◌, arith}
+use Rattle.std.proofs.Common.{◌≡◌, ℕ, ◌^◌, ◌<◌, ◌≤◌, Bool, true, false, eqb, List, ◌++◌, map, length, take, drop, set, None, sym, ap, ◌∙◌, arith}
 use Rattle.std.proofs.lemmas.List.{take-append-drop, set-append_left, length-take}
 use Rattle.std.proofs.lemmas.Bool.{cond-false, and_parts, and_from, not_from_true, leb-true, le-ltb, eq-eqb}
 use Rattle.interface.specs.Digest.{digest_of}

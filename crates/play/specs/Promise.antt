@@ -1,5 +1,5 @@
 -- When a whole list of turns is refused, and what it leaves.
-use Rattle.std.specs.Prelude.{◌≡◌, ℕ, Bool, cond, not, ◌&&◌, List, map, length, take, drop, Some, None, Option, nat_le, nat_lt}
+use Rattle.std.specs.Prelude.{◌≡◌, Bool, cond, not, ◌&&◌, List, map, length, take, drop, Some, None, Option, nat_le, nat_lt}
 use Rattle.interface.specs.Limits.{queue_slots}
 use Rattle.interface.specs.declared.answers.Refusal.{Refusal}
 use Rattle.interface.specs.declared.answers.Refusal.TheVariants.{BadFrame, BufferTooShort}

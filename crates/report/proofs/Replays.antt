@@ -21,11 +21,10 @@ use Rattle.report.specs.declared.ends.SeatEnd.{SeatEnd}
 use Rattle.report.specs.Reruns.{move_in, turn_in, Reran, log_after}
 use Rattle.report.specs.Turns.{call_in, lent_turn, plain_move, plain_turn}
 use Rattle.refine.specs.Plays as plays
-use Rattle.report.specs.declared.reports.SeatLine.{SeatLine}
 use Rattle.report.specs.Totals.{total}
 use Rattle.report.specs.Reports.{seat_line}
 use Rattle.report.proofs.Lists.{frames}
-use Rattle.report.specs.Replays.{Tale, tale_of, replayed, empty_slots, log_left}
+use Rattle.report.specs.Replays.{tale_of, replayed, empty_slots, log_left}
 
 all_of : (n : ℕ) → min n n ≡ n
 all_of n = omega arith

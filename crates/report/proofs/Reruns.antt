@@ -1,5 +1,5 @@
 -- What a list of turns made again gives, from the promise of a played match.
-use Rattle.std.proofs.Common.{◌≡◌, ℕ, zero, suc, ◌≤◌, min, Bool, true, false, ◌&&◌, List, [], ◌∷◌, map, length, take, set, Some, None, sym, refl, ap, ◌∙◌, subst, arith, length-set}
+use Rattle.std.proofs.Common.{◌≡◌, ℕ, zero, suc, ◌≤◌, min, Bool, true, false, List, [], ◌∷◌, map, length, take, set, Some, None, sym, refl, ap, ◌∙◌, arith, length-set}
 use Rattle.std.proofs.lemmas.List.{length-take, length-map}
 use Rattle.std.proofs.lemmas.Bool.{and_parts, and_from, eqb-true, le-leb}
 use Rattle.interface.specs.Digest.{digest_of}
@@ -7,8 +7,7 @@ use Rattle.interface.specs.Games.{State}
 use Rattle.interface.specs.Keepers.{Kept, newest}
 use Rattle.interface.specs.declared.answers.Refusal.{Refusal}
 use Rattle.plain.specs.Rules.{Rules}
-use Rattle.plain.specs.Match.{Plain, Move, Press, Send, Take, turn, played, fresh, run}
-use Rattle.plain.specs.Match as plain
+use Rattle.plain.specs.Match.{Plain, Send, Take, turn, played, fresh, run}
 use Rattle.plain.specs.States.{plain_state, down_from, listed}
 use Rattle.seat.specs.declared.state.Seat.{Seat}
 use Rattle.seat.specs.Meaning.{view}
@@ -16,14 +15,12 @@ use Rattle.seat.specs.Views.{View}
 use Rattle.refine.specs.Setup.{Setup, rules}
 use Rattle.refine.specs.Memory.{Entry, SlotLists, Memory, seat, put_seat, with_log, cut, own_part}
 use Rattle.refine.specs.Outcomes.{numbered, lent, move}
-use Rattle.refine.specs.Standing.{SeatStands, Stands}
+use Rattle.refine.specs.Standing.{SeatStands}
 use Rattle.refine.specs.Laws.{opened}
-use Rattle.refine.specs.Plays.{Step}
-use Rattle.refine.specs.Matches.{brought, turn_of, through, tale, turns, plain_tale, GoesAsPlain}
+use Rattle.refine.specs.Matches.{brought, turn_of, through, turns, plain_tale, GoesAsPlain}
 use Rattle.match_engine.specs.declared.log.Record.{Record}
-use Rattle.match_engine.specs.declared.state.Match.{Match}
 use Rattle.match_engine.specs.Log.{entry_of, entries}
-use Rattle.match_engine.specs.Meaning.{whole_slots, whole_memory}
+use Rattle.match_engine.specs.Meaning.{whole_slots}
 use Rattle.play.specs.declared.turns.Call.{Call}
 use Rattle.play.specs.declared.turns.Call.TheVariants as calls
 use Rattle.play.specs.declared.turns.Turn.{Turn}

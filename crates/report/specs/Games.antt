@@ -9,7 +9,6 @@ use Rattle.speed.specs.declared.moves.Move.{Move}
 use Rattle.speed.specs.Moves as speed_moves
 use Rattle.speed.specs.Opening as speed_opening
 use Rattle.speed.specs.Rules as speed_rules
-use Rattle.trace.specs.declared.forms.First.{First}
 use Rattle.trace.specs.declared.forms.GameName.{GameName}
 use Rattle.trace.specs.declared.forms.GameName.TheVariants.{Duel, Speed}
 use Rattle.trace.specs.declared.forms.TraceTurn.{TraceTurn}

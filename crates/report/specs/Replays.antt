@@ -1,5 +1,5 @@
 -- The replay of a match: what it tells, by the plain match, and the log that it leaves.
-use Rattle.std.specs.Prelude.{ℕ, Bool, true, false, List, map, length, replicate, vec_items}
+use Rattle.std.specs.Prelude.{ℕ, true, false, List, map, length, replicate, vec_items}
 use Rattle.interface.specs.Games.{State}
 use Rattle.interface.specs.Limits.{queue_slots}
 use Rattle.plain.specs.Rules.{Rules}

@@ -1,5 +1,5 @@
 -- The report on a trace, by its text and the number of records.
-use Rattle.std.specs.Prelude.{ℕ, Bool, true, false, List, [], map, length, Some, None, vec_items, Option}
+use Rattle.std.specs.Prelude.{ℕ, Bool, true, false, List, [], map, Some, None, vec_items, Option}
 use Rattle.refine.specs.Memory.{Entry}
 use Rattle.refine.specs.Plays.{Told}
 use Rattle.play.specs.Turns.{told_of}

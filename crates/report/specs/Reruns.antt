@@ -1,5 +1,5 @@
 -- What a list of turns made again gives, by the plain match.
-use Rattle.std.specs.Prelude.{◌≡◌, ℕ, min, Bool, true, false, List}
+use Rattle.std.specs.Prelude.{◌≡◌, ℕ, min, true, false, List}
 use Rattle.interface.specs.Games.{State}
 use Rattle.interface.specs.Limits.{queue_slots}
 use Rattle.plain.specs.Rules.{Rules}

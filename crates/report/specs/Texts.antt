@@ -1,5 +1,5 @@
 -- A report as text.
-use Rattle.std.specs.Prelude.{ℕ, ◌+◌, Bool, true, false, List, [], ◌∷◌, ◌++◌, Some, None, codes, decimal, Option}
+use Rattle.std.specs.Prelude.{ℕ, ◌+◌, List, [], ◌∷◌, ◌++◌, Some, None, codes, decimal, Option}
 use Rattle.interface.specs.Answers.{number_of}
 use Rattle.refine.specs.Plays.{Told}
 use Rattle.trace.specs.Pieces.{line_feed}

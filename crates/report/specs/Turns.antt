@@ -1,5 +1,5 @@
 -- The turns of a trace, as a match is made them and as the plain match is fed them.
-use Rattle.std.specs.Prelude.{ℕ, Bool, cond}
+use Rattle.std.specs.Prelude.{ℕ}
 use Rattle.interface.specs.Limits.{queue_slots}
 use Rattle.plain.specs.Match.{Move, turn, seat_number}
 use Rattle.plain.specs.Match as plain

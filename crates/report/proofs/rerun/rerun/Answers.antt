@@ -1,8 +1,6 @@
 use Rattle.std.proofs.Common.{[], ap}
 use Rattle.refine.specs.Setup.{setup}
 use Rattle.refine.specs.Memory.{slot_lists}
-use Rattle.match_engine.specs.Log.{entries}
-use Rattle.match_engine.specs.Meaning.{whole_memory}
 use Rattle.report.proofs.Reruns.{reran, end_as}
 use Rattle.report.proofs.rerun.rerun.Goals as goal
 

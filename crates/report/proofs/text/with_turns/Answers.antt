@@ -1,4 +1,4 @@
-use Rattle.std.proofs.Common.{◌++◌, string_bytes, refl, ap, ◌∙◌}
+use Rattle.std.proofs.Common.{◌++◌, string_bytes, ap, ◌∙◌}
 use Rattle.report.proofs.Texts.{turns_more, turns_all}
 use Rattle.report.proofs.text.with_turns.Goals as goal
 

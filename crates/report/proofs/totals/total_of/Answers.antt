@@ -1,4 +1,4 @@
-use Rattle.std.proofs.Common.{map, length, drop, ◌∙◌, arith}
+use Rattle.std.proofs.Common.{map, drop, ◌∙◌, arith}
 use Rattle.report.specs.Totals.{total}
 use Rattle.report.proofs.Lists.{frames, total_more, total_none, small_sum, sum_more}
 use Rattle.report.proofs.totals.total_of.Goals as goal

@@ -1,4 +1,4 @@
-use Rattle.std.proofs.Common.{sym, refl, arith}
+use Rattle.std.proofs.Common.{sym, refl}
 use Rattle.std.proofs.lemmas.Bool.{and_from}
 use Rattle.refine.specs.Setup.{setup}
 use Rattle.refine.specs.Memory.{slot_lists}

@@ -1,4 +1,4 @@
-use Rattle.std.proofs.Common.{true, false, sym, ◌∙◌, arith}
+use Rattle.std.proofs.Common.{true, false, sym, arith}
 use Rattle.interface.specs.declared.answers.Refusal.TheVariants.{LogFull}
 use Rattle.refine.specs.Setup.{setup}
 use Rattle.refine.specs.Memory.{slot_lists}
