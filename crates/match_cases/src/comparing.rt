@@ -36,13 +36,22 @@ fn same_seat<G: Game, K: Keeper<G>, H: GuessRule<G::Input>>(
 ) -> Result<(), Fail> {
     assert_eq!(rt;
         (seat.played(), seat.known(), seat.acknowledged()),
-        (own.played, own.known, own.acknowledged)
+        (own.played, own.known, own.acknowledged),
+        "counts, second seat: {second}"
     );
-    assert_eq!(rt; seat.confirmed(), own.played.min(own.known));
-    assert!(rt; !seat.has_parted(), "parted");
+    assert_eq!(rt;
+        seat.confirmed(),
+        own.played.min(own.known),
+        "confirmed, second seat: {second}"
+    );
+    assert!(rt; !seat.has_parted(), "parted, second seat: {second}");
     let state = plain_state::<G, H>(opening, second, own, other, own.played);
-    assert!(rt; same_words(seat, &state), "words");
-    assert_eq!(rt; seat.digest(), digest_of(&state), "digest");
+    assert!(rt; same_words(seat, &state), "words, second seat: {second}");
+    assert_eq!(rt;
+        seat.digest(),
+        digest_of(&state),
+        "digest, second seat: {second}"
+    );
     Ok(())
 }
 
@@ -66,8 +75,7 @@ pub fn same_match<
         false,
         &plain.first,
         &plain.second,
-    )
-    .note("seat 0")?;
+    )?;
     same_seat(
         rt,
         game.second(),
@@ -75,8 +83,7 @@ pub fn same_match<
         true,
         &plain.second,
         &plain.first,
-    )
-    .note("seat 1")?;
+    )?;
     assert_eq!(rt; game.sent(), plain.notes.len());
     Ok(())
 }
@@ -111,7 +118,7 @@ fn same_digests<G: Game, H: GuessRule<G::Input>>(
         assert_eq!(rt;
             digests.get(n as usize % 32).copied(),
             Some(digest_of(&state)),
-            "held digest"
+            "held digest, second seat: {second}"
         );
     }
 }
@@ -178,8 +185,7 @@ pub fn same_memory<G: Game, H0: GuessRule<G::Input>, H1: GuessRule<G::Input>>(
         false,
         &plain.first,
         &plain.second,
-    )
-    .note("slots of seat 0")?;
+    )?;
     same_slots::<G, H1>(
         rt,
         &second.own,
@@ -189,8 +195,7 @@ pub fn same_memory<G: Game, H0: GuessRule<G::Input>, H1: GuessRule<G::Input>>(
         true,
         &plain.second,
         &plain.first,
-    )
-    .note("slots of seat 1")?;
+    )?;
     confirmed_is_true(rt, &first.digests, opening, plain, false);
     confirmed_is_true(rt, &second.digests, opening, plain, true);
     same_log(rt, log, plain);

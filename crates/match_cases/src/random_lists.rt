@@ -151,9 +151,7 @@ fn lists<
     second: &mut Lent<G::Input>,
 ) -> Result<(), Fail> {
     for seed in 0..MATCHES {
-        one_list::<G, K0, K1, H0, H1>(rt, heap, seed, codes, first, second).note(format_args!(
-            "seed {seed}"
-        ))?;
+        one_list::<G, K0, K1, H0, H1>(rt, heap, seed, codes, first, second)?;
     }
     Ok(())
 }

@@ -65,6 +65,7 @@ fn both_ways<
     opening: G,
     plain: &mut PlainMatch<G::Input>,
     turn: Turn,
+    place: (u32, u32),
     first: &mut Lent<G::Input>,
     second: &mut Lent<G::Input>,
     log: &mut [Record],
@@ -75,7 +76,7 @@ fn both_ways<
     } else {
         call(game, turn, first, log)
     };
-    assert_eq!(rt; answer, (told.code, told.frames));
+    assert_eq!(rt; answer, (told.code, told.frames), "seed and turn {place:?}");
     same_match(rt, game, opening, plain)?;
     Ok(told)
 }
@@ -102,14 +103,20 @@ fn make_turns<
     let mut source = Source::new(seed, codes);
     for i in 0..TURNS {
         let turn = source.next(plain);
-        match both_ways(rt, game, opening, plain, turn, first, second, log) {
-            Ok(told) => count(tally, told)?,
-            Err(fail) => return Err(fail).note(format_args!("seed {seed}, turn {i}")),
-        }
+        let told = both_ways(
+            rt,
+            game,
+            opening,
+            plain,
+            turn,
+            (seed, i),
+            first,
+            second,
+            log,
+        )?;
+        count(tally, told)?;
         if i % PHASE == 0 {
-            same_memory::<G, H0, H1>(rt, opening, plain, first, second, log).note(format_args!(
-                "seed {seed}, turn {i}"
-            ))?;
+            same_memory::<G, H0, H1>(rt, opening, plain, first, second, log)?;
         }
     }
     Ok(())

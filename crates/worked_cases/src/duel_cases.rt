@@ -28,36 +28,44 @@ mod tests {
         DuelInput::read(code).unwrap_or(DuelInput::idle())
     }
 
-    fn sums(rt: &impl Abort, duel: &Duel, words: [u32; 10]) -> Result<(), Fail> {
+    // The words of a state, in a case that the note names.
+    fn sums(rt: &impl Abort, duel: &Duel, words: [u32; 10], note: &str) {
         for k in 0..10u32 {
-            assert_eq!(rt; duel.word(k), Some(words[k as usize]));
+            assert_eq!(rt; duel.word(k), Some(words[k as usize]), "{note}");
         }
-        assert_eq!(rt; duel.word(10), None);
-        assert_eq!(rt; duel.word(u32::MAX), None);
-        Ok(())
+        assert_eq!(rt; duel.word(10), None, "{note}");
+        assert_eq!(rt; duel.word(u32::MAX), None, "{note}");
     }
 
     #[test]
     fn opening_and_first_frame(rt: HostRuntime) -> Result<(), Fail> {
         let mut duel = Duel::open(0);
-        sums(&rt, &duel, [0, 0, 2, 0, 7, 7, 4, 0, 0, 0])?;
+        sums(&rt, &duel, [0, 0, 2, 0, 7, 7, 4, 0, 0, 0], "the opening");
         assert_eq!(rt; digest(&duel), 202);
         assert_eq!(rt; Duel::W, Duel::width());
         let trail = duel.step(coded(2), coded(1));
-        sums(&rt, &duel, [1, 0, 2, 0, 7, 6, 1, 0, 0, 0])?;
+        sums(
+            &rt,
+            &duel,
+            [1, 0, 2, 0, 7, 6, 1, 0, 0, 0],
+            "the first frame",
+        );
         assert_eq!(rt; digest(&duel), 153);
         assert_eq!(rt; answer(duel.undo(&trail)), 0);
-        sums(&rt, &duel, [0, 0, 2, 0, 7, 7, 4, 0, 0, 0])?;
+        sums(&rt, &duel, [0, 0, 2, 0, 7, 7, 4, 0, 0, 0], "taken back");
         sums(
             &rt,
             &Duel::open(u32::MAX),
             [0, 0, 2, 0, 7, 7, 4, 0, 0xffff_fffe, 0x7fff_ffff],
-        )?;
+            "the opening of the greatest seed",
+        );
         sums(
             &rt,
             &Duel::open(0x8001_0003),
             [0, 0, 2, 0, 7, 7, 4, 0, 0x8001_0002, 0x0003_8001],
-        )
+            "the opening of a seed with bits in both halves",
+        );
+        Ok(())
     }
 
     #[test]
@@ -77,13 +85,13 @@ mod tests {
     }
 
     // What restoring ten words answers, and the words then: those, or the old ones.
-    fn restores(rt: &impl Abort, words: [u32; 10], expected: u32) -> Result<(), Fail> {
+    fn restores(rt: &impl Abort, words: [u32; 10], expected: u32, note: &str) {
         let mut from = [7u32; 72];
         for k in 0..10 {
             from[k] = words[k];
         }
         let mut duel = Duel::open(0);
-        assert_eq!(rt; answer(duel.restore(&from)), expected);
+        assert_eq!(rt; answer(duel.restore(&from)), expected, "{note}");
         sums(
             rt,
             &duel,
@@ -92,13 +100,24 @@ mod tests {
             } else {
                 [0, 0, 2, 0, 7, 7, 4, 0, 0, 0]
             },
+            note,
         )
     }
 
     #[test]
     fn restore_at_the_edges(rt: HostRuntime) -> Result<(), Fail> {
-        restores(&rt, [7, 7, 1, 65_535, 6, 7, 4, 65_535, 0, 0], 0)?;
-        restores(&rt, [3, 4, 4, 0, 4, 4, 1, 0, 0xffff_ffff, 0xffff_ffe7], 0)?;
+        restores(
+            &rt,
+            [7, 7, 1, 65_535, 6, 7, 4, 65_535, 0, 0],
+            0,
+            "the greatest scores",
+        );
+        restores(
+            &rt,
+            [3, 4, 4, 0, 4, 4, 1, 0, 0xffff_ffff, 0xffff_ffe7],
+            0,
+            "walls but for two cells",
+        );
         for (place, low, high) in [
             (0, 0, 8),
             (1, 0, 8),
@@ -111,20 +130,41 @@ mod tests {
         ] {
             let mut words = [2, 2, 2, 2, 5, 5, 3, 3, 0, 0];
             words[place] = low;
-            restores(&rt, words, 0)?;
+            restores(&rt, words, 0, "a word at its edge");
             words[place] = high - 1;
-            restores(&rt, words, 0)?;
+            restores(&rt, words, 0, "a word at its edge");
             words[place] = high;
-            restores(&rt, words, 16)?;
+            restores(&rt, words, 16, "a word at its edge");
             words[place] = u32::MAX;
-            restores(&rt, words, 16)?;
+            restores(&rt, words, 16, "a word at its edge");
         }
-        restores(&rt, [2, 2, 0, 2, 5, 5, 3, 3, 0, 0], 16).note("facing 0")?;
-        restores(&rt, [2, 2, 2, 2, 5, 5, 0, 3, 0, 0], 16).note("facing 0 of seat 1")?;
-        restores(&rt, [5, 5, 2, 2, 5, 5, 3, 3, 0, 0], 16).note("one cell")?;
-        restores(&rt, [2, 3, 2, 2, 5, 5, 3, 3, 1 << 26, 0], 16).note("seat 0 in a wall")?;
-        restores(&rt, [2, 3, 2, 2, 5, 5, 3, 3, 0, 1 << 13], 16).note("seat 1 in a wall")?;
-        restores(&rt, [2, 3, 2, 2, 5, 5, 3, 3, 0, 1 << 26], 0).note("a wall in the other half")
+        restores(&rt, [2, 2, 0, 2, 5, 5, 3, 3, 0, 0], 16, "facing 0");
+        restores(
+            &rt,
+            [2, 2, 2, 2, 5, 5, 0, 3, 0, 0],
+            16,
+            "facing 0 of seat 1",
+        );
+        restores(&rt, [5, 5, 2, 2, 5, 5, 3, 3, 0, 0], 16, "one cell");
+        restores(
+            &rt,
+            [2, 3, 2, 2, 5, 5, 3, 3, 1 << 26, 0],
+            16,
+            "seat 0 in a wall",
+        );
+        restores(
+            &rt,
+            [2, 3, 2, 2, 5, 5, 3, 3, 0, 1 << 13],
+            16,
+            "seat 1 in a wall",
+        );
+        restores(
+            &rt,
+            [2, 3, 2, 2, 5, 5, 3, 3, 0, 1 << 26],
+            0,
+            "a wall in the other half",
+        );
+        Ok(())
     }
 
     #[test]
@@ -132,7 +172,7 @@ mod tests {
         let mut duel = Duel::open(0);
         // Seat 0 at column 3 and row 2 facing down, seat 1 as it stands.
         assert_eq!(rt; answer(duel.undo(&[3 + 16 + 192, 9, 63 + 256, 65_535])), 0);
-        sums(&rt, &duel, [3, 2, 3, 9, 7, 7, 4, 65_535, 0, 0])?;
+        sums(&rt, &duel, [3, 2, 3, 9, 7, 7, 4, 65_535, 0, 0], "led back");
         for trail in [
             [63 + 64, 0, 63 + 64, 0],
             [64, 65_536, 63 + 256, 0],
@@ -141,7 +181,7 @@ mod tests {
             [u32::MAX, 0, 0, 0],
         ] {
             assert_eq!(rt; answer(duel.undo(&trail)), 16);
-            sums(&rt, &duel, [3, 2, 3, 9, 7, 7, 4, 65_535, 0, 0])?;
+            sums(&rt, &duel, [3, 2, 3, 9, 7, 7, 4, 65_535, 0, 0], "kept");
         }
         Ok(())
     }
@@ -152,6 +192,7 @@ mod tests {
         from: [u32; 10],
         codes: &[(u16, u16)],
         expected: [u32; 10],
+        note: &str,
     ) -> Result<(), Fail> {
         let Some(mut duel) = Duel::from_words(&from) else {
             return Err(Fail::new("unlawful"));
@@ -159,20 +200,41 @@ mod tests {
         for (first, second) in codes {
             let _ = duel.step(coded(*first), coded(*second));
         }
-        sums(rt, &duel, expected)
+        sums(rt, &duel, expected, note);
+        Ok(())
     }
 
     #[test]
     fn frames(rt: HostRuntime) -> Result<(), Fail> {
         let open = [0, 0, 2, 0, 7, 7, 4, 0, 0, 0];
         let six = [(0, 1), (0, 1), (0, 1), (0, 1), (0, 1), (0, 1), (8, 1)];
-        plays(&rt, open, &six, [0, 0, 2, 1, 7, 0, 1, 0, 0, 0]).note("seat 0 fires in frame 6")?;
+        plays(
+            &rt,
+            open,
+            &six,
+            [0, 0, 2, 1, 7, 0, 1, 0, 0, 0],
+            "seat 0 fires in frame 6",
+        )?;
         let five = [(0, 1), (0, 1), (0, 1), (0, 1), (0, 1), (8, 1), (0, 1)];
-        plays(&rt, open, &five, [0, 0, 2, 0, 7, 0, 1, 0, 0, 0]).note("seat 0 fires in frame 5")?;
-        plays(&rt, open, &[(1, 3)], [0, 0, 1, 0, 7, 7, 3, 0, 0, 0]).note(
+        plays(
+            &rt,
+            open,
+            &five,
+            [0, 0, 2, 0, 7, 0, 1, 0, 0, 0],
+            "seat 0 fires in frame 5",
+        )?;
+        plays(
+            &rt,
+            open,
+            &[(1, 3)],
+            [0, 0, 1, 0, 7, 7, 3, 0, 0, 0],
             "off the grid both face and stay",
         )?;
-        plays(&rt, open, &[(4, 2)], [0, 0, 4, 0, 7, 7, 2, 0, 0, 0]).note(
+        plays(
+            &rt,
+            open,
+            &[(4, 2)],
+            [0, 0, 4, 0, 7, 7, 2, 0, 0, 0],
             "off the grid, the other way",
         )?;
         plays(
@@ -180,56 +242,56 @@ mod tests {
             [2, 2, 1, 0, 4, 2, 1, 0, 0, 0],
             &[(2, 4)],
             [2, 2, 2, 0, 4, 2, 4, 0, 0, 0],
-        )
-        .note("both aim at one cell")?;
+            "both aim at one cell",
+        )?;
         plays(
             &rt,
             [2, 2, 1, 0, 3, 2, 1, 0, 0, 0],
             &[(2, 2)],
             [2, 2, 2, 0, 4, 2, 2, 0, 0, 0],
-        )
-        .note("the cell was the other's before the frame")?;
+            "the cell was the other's before the frame",
+        )?;
         plays(
             &rt,
             [2, 2, 1, 0, 3, 2, 1, 0, 0, 0],
             &[(2, 4)],
             [2, 2, 2, 0, 3, 2, 4, 0, 0, 0],
-        )
-        .note("no exchange")?;
+            "no exchange",
+        )?;
         plays(
             &rt,
             [2, 2, 1, 0, 5, 5, 1, 0, 1 << 19, 0],
             &[(2, 0)],
             [2, 2, 2, 0, 5, 5, 1, 0, 1 << 19, 0],
-        )
-        .note("into a wall")?;
+            "into a wall",
+        )?;
         plays(
             &rt,
             [2, 2, 2, 0, 5, 2, 4, 0, 1 << 19, 0],
             &[(8, 8)],
             [2, 2, 2, 0, 5, 2, 4, 0, 1 << 19, 0],
-        )
-        .note("a wall between")?;
+            "a wall between",
+        )?;
         plays(
             &rt,
             [2, 2, 2, 0, 5, 2, 4, 0, 0, 0],
             &[(8, 8)],
             [2, 2, 2, 1, 5, 2, 4, 1, 0, 0],
-        )
-        .note("both hit")?;
+            "both hit",
+        )?;
         plays(
             &rt,
             [2, 2, 2, 65_535, 3, 2, 4, 7, 0, 0],
             &[(8, 0)],
             [2, 2, 2, 65_535, 3, 2, 4, 7, 0, 0],
-        )
-        .note("a score at its top")?;
+            "a score at its top",
+        )?;
         plays(
             &rt,
             [2, 2, 1, 0, 3, 5, 1, 0, 0, 0],
             &[(2, 9)],
             [3, 2, 2, 0, 3, 4, 1, 1, 0, 0],
+            "fire from the new cell at the new cell",
         )
-        .note("fire from the new cell at the new cell")
     }
 }

@@ -12,6 +12,7 @@ use keepers::trails::Trails;
 use seat::state::{Seat, Slots};
 use speed::game::Speed;
 use speed::moves::Move;
+use std::process::Abort;
 use std::test::*;
 
 const MATCH: u16 = 7;
@@ -107,6 +108,7 @@ fn good(second: bool, digest: u32) -> Forged {
 
 // At P 3, R 0 and A 0: each refusal at its edge leaves the counts and the state.
 fn refused<G: Game, K: Keeper<G>, H: GuessRule<G::Input>>(
+    rt: &impl Abort,
     seat: &mut Seat<G, K, H>,
     own: &mut [G::Input],
     other: &mut [G::Input],
@@ -171,16 +173,17 @@ fn refused<G: Game, K: Keeper<G>, H: GuessRule<G::Input>>(
         ),
     ];
     for (forged, answer) in cases {
-        assert_eq!(take(seat, own, other, digests, forged), (answer, 0));
-        assert_eq!(seat.played(), 3);
-        assert_eq!(seat.known() + seat.acknowledged(), 0);
-        assert_eq!(seat.digest(), newest);
+        assert_eq!(rt; take(seat, own, other, digests, forged), (answer, 0));
+        assert_eq!(rt; seat.played(), 3);
+        assert_eq!(rt; seat.known() + seat.acknowledged(), 0);
+        assert_eq!(rt; seat.digest(), newest);
     }
     Ok(())
 }
 
 // Damaged bytes, at any counts.
 fn damaged<G: Game, K: Keeper<G>, H: GuessRule<G::Input>>(
+    rt: &impl Abort,
     seat: &mut Seat<G, K, H>,
     own: &mut [G::Input],
     other: &mut [G::Input],
@@ -205,7 +208,7 @@ fn damaged<G: Game, K: Keeper<G>, H: GuessRule<G::Input>>(
             other: &mut *other,
             digests: &mut *digests,
         };
-        assert_eq!(seat.take(slots, &bytes[0..length]), (answer, 0));
+        assert_eq!(rt; seat.take(slots, &bytes[0..length]), (answer, 0));
     }
     let mut few = [0u32; 31];
     let slots = Slots {
@@ -213,12 +216,13 @@ fn damaged<G: Game, K: Keeper<G>, H: GuessRule<G::Input>>(
         other: &mut *other,
         digests: &mut few,
     };
-    assert_eq!(seat.take(slots, &buffer[0..21]), (20, 0));
+    assert_eq!(rt; seat.take(slots, &buffer[0..21]), (20, 0));
     Ok(())
 }
 
 // A seat against forged datagrams: refused, accepted, and parted.
 fn forged_datagrams<G: Game, K: Keeper<G> + Drop, H: GuessRule<G::Input> + Drop>(
+    rt: &impl Abort,
     second: bool,
     own: &mut [G::Input],
     other: &mut [G::Input],
@@ -234,10 +238,10 @@ fn forged_datagrams<G: Game, K: Keeper<G> + Drop, H: GuessRule<G::Input> + Drop>
         return Err(Fail::new("not opened"));
     };
     let good = good(second, seat.digest());
-    assert_eq!(presses(&mut seat, own, other, digests, 0, 3), 0);
-    refused(&mut seat, own, other, digests, good)?;
-    damaged(&mut seat, own, other, digests, good)?;
-    assert_eq!(
+    assert_eq!(rt; presses(&mut seat, own, other, digests, 0, 3), 0);
+    refused(rt, &mut seat, own, other, digests, good)?;
+    damaged(rt, &mut seat, own, other, digests, good)?;
+    assert_eq!(rt;
         take(
             &mut seat,
             own,
@@ -251,11 +255,11 @@ fn forged_datagrams<G: Game, K: Keeper<G> + Drop, H: GuessRule<G::Input> + Drop>
         ),
         (0, 0)
     );
-    assert_eq!((seat.known(), seat.acknowledged()), (11, 3));
+    assert_eq!(rt; (seat.known(), seat.acknowledged()), (11, 3));
     // A late datagram lowers nothing.
-    assert_eq!(take(&mut seat, own, other, digests, good), (0, 0));
-    assert_eq!((seat.known(), seat.acknowledged()), (11, 3));
-    assert_eq!(
+    assert_eq!(rt; take(&mut seat, own, other, digests, good), (0, 0));
+    assert_eq!(rt; (seat.known(), seat.acknowledged()), (11, 3));
+    assert_eq!(rt;
         take(
             &mut seat,
             own,
@@ -268,14 +272,15 @@ fn forged_datagrams<G: Game, K: Keeper<G> + Drop, H: GuessRule<G::Input> + Drop>
         ),
         (30, 0)
     );
-    assert!(seat.has_parted());
-    assert_eq!(take(&mut seat, own, other, digests, good), (10, 0));
-    assert_eq!(presses(&mut seat, own, other, digests, code, 1), 10);
+    assert!(rt; seat.has_parted());
+    assert_eq!(rt; take(&mut seat, own, other, digests, good), (10, 0));
+    assert_eq!(rt; presses(&mut seat, own, other, digests, code, 1), 10);
     Ok(())
 }
 
 // A seat that guessed wrong and is told another digest: parted, with frames replayed.
 fn parted_after_replay<G: Game, K: Keeper<G> + Drop, H: GuessRule<G::Input> + Drop>(
+    rt: &impl Abort,
     second: bool,
     own: &mut [G::Input],
     other: &mut [G::Input],
@@ -291,10 +296,10 @@ fn parted_after_replay<G: Game, K: Keeper<G> + Drop, H: GuessRule<G::Input> + Dr
         return Err(Fail::new("not opened"));
     };
     let good = good(second, seat.digest());
-    assert_eq!(presses(&mut seat, own, other, digests, code, 8), 0);
-    assert_eq!(presses(&mut seat, own, other, digests, code, 1), 12);
-    assert_eq!(presses(&mut seat, own, other, digests, 999, 1), 5);
-    assert_eq!(
+    assert_eq!(rt; presses(&mut seat, own, other, digests, code, 8), 0);
+    assert_eq!(rt; presses(&mut seat, own, other, digests, code, 1), 12);
+    assert_eq!(rt; presses(&mut seat, own, other, digests, 999, 1), 5);
+    assert_eq!(rt;
         take(
             &mut seat,
             own,
@@ -309,12 +314,13 @@ fn parted_after_replay<G: Game, K: Keeper<G> + Drop, H: GuessRule<G::Input> + Dr
         ),
         (30, 8)
     );
-    assert_eq!((seat.played(), seat.known()), (8, 3));
+    assert_eq!(rt; (seat.played(), seat.known()), (8, 3));
     Ok(())
 }
 
 // A seat whose inputs are never acknowledged: 13 at A + 32.
 fn unacknowledged<G: Game, K: Keeper<G> + Drop, H: GuessRule<G::Input> + Drop>(
+    rt: &impl Abort,
     second: bool,
     own: &mut [G::Input],
     other: &mut [G::Input],
@@ -331,7 +337,7 @@ fn unacknowledged<G: Game, K: Keeper<G> + Drop, H: GuessRule<G::Input> + Drop>(
     };
     let good = good(second, seat.digest());
     for start in [0, 8, 16, 24] {
-        assert_eq!(
+        assert_eq!(rt;
             take(
                 &mut seat,
                 own,
@@ -345,10 +351,10 @@ fn unacknowledged<G: Game, K: Keeper<G> + Drop, H: GuessRule<G::Input> + Drop>(
             ),
             (0, 0)
         );
-        assert_eq!(presses(&mut seat, own, other, digests, code, 8), 0);
+        assert_eq!(rt; presses(&mut seat, own, other, digests, code, 8), 0);
     }
-    assert_eq!(presses(&mut seat, own, other, digests, code, 1), 13);
-    assert_eq!(
+    assert_eq!(rt; presses(&mut seat, own, other, digests, code, 1), 13);
+    assert_eq!(rt;
         take(
             &mut seat,
             own,
@@ -361,19 +367,19 @@ fn unacknowledged<G: Game, K: Keeper<G> + Drop, H: GuessRule<G::Input> + Drop>(
         ),
         (0, 0)
     );
-    assert_eq!(presses(&mut seat, own, other, digests, code, 1), 0);
+    assert_eq!(rt; presses(&mut seat, own, other, digests, code, 1), 0);
     Ok(())
 }
 
 // All of these for one game, keeper and rule, at one seat.
 macro_rules! seat_holds {
-    ($game:ty, $keeper:ty, $rule:ty, $second:expr, $idle:expr, $code:expr) => {{
+    ($rt:expr, $game:ty, $keeper:ty, $rule:ty, $second:expr, $idle:expr, $code:expr) => {{
         let mut own = [$idle; 32];
         let mut other = [$idle; 32];
         let mut digests = [0u32; 32];
-        forged_datagrams::<$game, $keeper, $rule>($second, &mut own, &mut other, &mut digests, $code)?;
-        parted_after_replay::<$game, $keeper, $rule>($second, &mut own, &mut other, &mut digests, $code)?;
-        unacknowledged::<$game, $keeper, $rule>($second, &mut own, &mut other, &mut digests, $code)?;
+        forged_datagrams::<$game, $keeper, $rule>($rt, $second, &mut own, &mut other, &mut digests, $code)?;
+        parted_after_replay::<$game, $keeper, $rule>($rt, $second, &mut own, &mut other, &mut digests, $code)?;
+        unacknowledged::<$game, $keeper, $rule>($rt, $second, &mut own, &mut other, &mut digests, $code)?;
     }};
 }
 
@@ -383,16 +389,16 @@ const STAY: DuelInput = DuelInput {
 };
 
 #[test]
-fn duel_seats() -> Result<(), Fail> {
-    seat_holds!(Duel, Snapshots<Duel>, Hold, false, STAY, 8);
-    seat_holds!(Duel, Trails<Duel>, Still, true, STAY, 2);
+fn duel_seats(rt: HostRuntime) -> Result<(), Fail> {
+    seat_holds!(&rt, Duel, Snapshots<Duel>, Hold, false, STAY, 8);
+    seat_holds!(&rt, Duel, Trails<Duel>, Still, true, STAY, 2);
     Ok(())
 }
 
 #[test]
-fn speed_seats() -> Result<(), Fail> {
-    seat_holds!(Speed, Trails<Speed>, Hold, true, Move::Idle, 11);
-    seat_holds!(Speed, Snapshots<Speed>, Still, false, Move::Idle, 3);
+fn speed_seats(rt: HostRuntime) -> Result<(), Fail> {
+    seat_holds!(&rt, Speed, Trails<Speed>, Hold, true, Move::Idle, 11);
+    seat_holds!(&rt, Speed, Snapshots<Speed>, Still, false, Move::Idle, 3);
     Ok(())
 }
 

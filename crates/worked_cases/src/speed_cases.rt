@@ -241,12 +241,12 @@ mod tests {
         z.wrapping_mul(1_664_525).wrapping_add(1_013_904_223)
     }
 
-    fn check_words(rt: &impl Abort, game: &Speed, words: &[u32; 72]) -> Result<(), Fail> {
+    // The words of a state, in a case that the note names.
+    fn check_words(rt: &impl Abort, game: &Speed, words: &[u32; 72], note: &str) {
         for k in 0..68 {
-            assert_eq!(rt; game.word(k), Some(words[k as usize]));
+            assert_eq!(rt; game.word(k), Some(words[k as usize]), "{note}");
         }
-        assert_eq!(rt; game.word(68), None);
-        Ok(())
+        assert_eq!(rt; game.word(68), None, "{note}");
     }
 
     #[test]
@@ -264,9 +264,9 @@ mod tests {
             let first = <speed::moves::Move as InputKind>::read(case.codes.0).ok_or("code")?;
             let second = <speed::moves::Move as InputKind>::read(case.codes.1).ok_or("code")?;
             let trail = game.step(first, second);
-            check_words(&rt, &game, &changed(&before, case.after)).note(case.name)?;
+            check_words(&rt, &game, &changed(&before, case.after), case.name);
             assert!(rt; game.undo(&trail).is_ok(), "{}", case.name);
-            check_words(&rt, &game, &before).note(case.name)?;
+            check_words(&rt, &game, &before, case.name);
         }
         Ok(())
     }
@@ -294,7 +294,7 @@ mod tests {
                 Ok(()) => return Err(Fail::new(*name)),
                 Err(refusal) => assert_eq!(rt; refusal.number(), 16, "{}", *name),
             }
-            check_words(&rt, &game, &IN_ORDER).note(*name)?;
+            check_words(&rt, &game, &IN_ORDER, name);
         }
         Ok(())
     }
@@ -317,10 +317,11 @@ mod tests {
                 Ok(()) => return Err(Fail::new("another trail")),
                 Err(refusal) => assert_eq!(rt; refusal.number(), 16),
             }
-            check_words(&rt, &game, &now)?;
+            check_words(&rt, &game, &now, "another trail");
         }
         assert!(rt; game.undo(&[first, second, 3, 1]).is_ok());
-        check_words(&rt, &game, &changed(&IN_ORDER, &[(64, 3), (67, 1)]))
+        check_words(&rt, &game, &changed(&IN_ORDER, &[(64, 3), (67, 1)]), "left");
+        Ok(())
     }
 
     // The digests of a game after 100, 200 and 300 frames were worked out by tools/speed_play.py; it is over by then.
