@@ -2,8 +2,8 @@
 """Hold a replay program's reports against the filed ones, and against those of drawn traces.
 
 Run from the repository:
-     python3 tools/check_reports.py target/bin/replay
-     python3 tools/check_reports.py --random 300 bench/baseline/target/release/baseline replay
+     python3 tools/check_reports.py crates/replay/out/replay
+     python3 tools/check_reports.py --random 300 crates/replay/out/replay
 
 The words after the options are the program and its arguments. Each trace of crates/replay_cases/data goes to its
 standard input, and what it prints has to be the report beside the trace, byte for byte. With --random N it is also

@@ -104,6 +104,14 @@ mod tests {
         )
     }
 
+    // The same, with one word of a lawful ten changed.
+    fn restores_with(rt: &impl Abort, place: usize, word: u32, expected: u32) {
+        let mut words = [2, 2, 2, 2, 5, 5, 3, 3, 0, 0];
+        assert!(rt; place < 10);
+        words[place] = word;
+        restores(rt, words, expected, "a word at its edge");
+    }
+
     #[test]
     fn restore_at_the_edges(rt: HostRuntime) -> Result<(), Fail> {
         restores(
@@ -128,15 +136,10 @@ mod tests {
             (6, 1, 5),
             (7, 0, 65_536),
         ] {
-            let mut words = [2, 2, 2, 2, 5, 5, 3, 3, 0, 0];
-            words[place] = low;
-            restores(&rt, words, 0, "a word at its edge");
-            words[place] = high - 1;
-            restores(&rt, words, 0, "a word at its edge");
-            words[place] = high;
-            restores(&rt, words, 16, "a word at its edge");
-            words[place] = u32::MAX;
-            restores(&rt, words, 16, "a word at its edge");
+            restores_with(&rt, place, low, 0);
+            restores_with(&rt, place, high - 1, 0);
+            restores_with(&rt, place, high, 16);
+            restores_with(&rt, place, u32::MAX, 16);
         }
         restores(&rt, [2, 2, 0, 2, 5, 5, 3, 3, 0, 0], 16, "facing 0");
         restores(
