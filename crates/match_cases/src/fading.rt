@@ -1,5 +1,5 @@
 // A guess rule that heeds the gap: the other seat goes on for three frames, and then does nothing.
-ghost use Rattle.std.specs.Prelude.{if_then_else_, nat_lt};
+ghost use Rattle.std.specs.Prelude.{if◌then◌else◌, nat_lt};
 
 use interface::guess::GuessRule;
 use interface::input::InputKind;
