@@ -10,7 +10,7 @@ pub enum Call {
     Take(u32),
 }
 
-// A turn: the seat's number, the call, and how many of the seat's own slots and of the records it is lent.
+// A turn: the seat's number, the call, and how many slots of each queue and how many records it is lent, from the front; all, where there are fewer.
 #[derive(Clone, Copy)]
 pub struct Turn {
     pub seat: u32,

@@ -1,6 +1,7 @@
 -- A whole list of calls on one match: what each answers, and what they leave. The caller brings slots for both seats, 32 or more for
 -- each queue, of which the first 32 are the seat's own, and a log. Each call is lent slots from the front, in any number, and records from
--- the front of the log: so its own slots or a wrong number of them, and all of the log or less.
+-- the front of the log: so its own slots or a wrong number of them, and all of the log or less. A step's numbers of slots and records count from
+-- there.
 use Rattle.std.specs.Prelude.{◌≡◌, ℕ, ◌+◌, ◌^◌, ◌<◌, ◌≤◌, Bool, true, List, [], ◌∷◌, ◌++◌, map, length, take, drop, Some}
 use Rattle.std.specs.List.{slice_get}
 use Rattle.interface.specs.Answers.{accepted}
