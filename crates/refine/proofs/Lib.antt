@@ -12,6 +12,7 @@ pub mod Calling
 pub mod Refusing
 pub mod Opening
 pub mod Moments
+pub mod Leaving
 pub mod Playing
 pub mod Plays
 pub mod Matching
