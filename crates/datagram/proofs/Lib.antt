@@ -5,3 +5,4 @@ pub mod Buffers
 pub mod Readings
 pub mod Parses
 pub mod Writings
+pub mod Padded

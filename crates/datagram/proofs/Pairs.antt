@@ -1,9 +1,10 @@
 -- Codes and their bytes, two to each.
-use Rattle.std.proofs.Common.{◌≡◌, ℕ, zero, suc, ◌+◌, ◌*◌, ◌/◌, ◌%◌, ◌^◌, ◌<◌, List, [], ◌∷◌, ◌++◌, length, get_or, Some, refl, ap, arith}
+use Rattle.std.proofs.Common.{◌≡◌, ℕ, zero, suc, ◌+◌, ◌*◌, ◌/◌, ◌%◌, ◌^◌, ◌<◌, List, [], ◌∷◌, ◌++◌, length, get_or, Some, refl, ap, ap₂, arith}
 use Rattle.std.specs.List.{AllByRecursion, slice_get}
 use Rattle.datagram.specs.Layout.{two_bytes, code_bytes}
 use Rattle.datagram.specs.Reading.{codes_of}
-use Rattle.datagram.proofs.Digits.{two_0, two_1, two_back}
+use Rattle.std.proofs.lemmas.Nat.{from_le_bytes-to_le_bytes_2}
+use Rattle.datagram.proofs.Digits.{two_of}
 
 pub length_codes_of : (bs : List ℕ) → length (codes_of bs) ≡ length bs / 2
 length_codes_of [] = refl
@@ -33,19 +34,14 @@ code_bytes_push (d ∷ cs) c = ap (λ bs. d % 256 ∷ d / 256 % 256 ∷ bs) (cod
 pub codes_of_code_bytes : (cs : List ℕ) → AllByRecursion (λ c. c < 2 ^ 16) cs → codes_of (code_bytes cs) ≡ cs
 codes_of_code_bytes [] h = refl
 codes_of_code_bytes (c ∷ cs) h =
-    let here = two_back c h.0 in
-    let ih = codes_of_code_bytes cs h.1 in
-    cc
+    ap₂ ◌∷◌ (from_le_bytes-to_le_bytes_2 c h.0) (codes_of_code_bytes cs h.1)
 
 -- and so do bytes, where none is left over
 pub code_bytes_codes_of : (bs : List ℕ) → length bs % 2 ≡ 0 → AllByRecursion (λ b. b < 256) bs → code_bytes (codes_of bs) ≡ bs
 code_bytes_codes_of [] even h = refl
 code_bytes_codes_of (a ∷ []) even h = absurd (omega arith)
 code_bytes_codes_of (a ∷ b ∷ bs) even h =
-    let low = two_0 a b h.0 h.1.0 in
-    let high = two_1 a b h.0 h.1.0 in
-    let ih = code_bytes_codes_of bs (omega arith) h.1.1 in
-    cc
+    ap₂ ◌++◌ (two_of a b h.0 h.1.0) (code_bytes_codes_of bs (omega arith) h.1.1)
 
 pub codes_fit : (bs : List ℕ) → AllByRecursion (λ b. b < 256) bs → AllByRecursion (λ c. c < 2 ^ 16) (codes_of bs)
 codes_fit [] h = tt

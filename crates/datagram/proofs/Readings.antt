@@ -1,5 +1,5 @@
 -- What reading accepts, and that it is what writing gives.
-use Rattle.std.proofs.Common.{◌≡◌, ℕ, ◌+◌, ◌-◌, ◌*◌, ◌/◌, ◌%◌, ◌<◌, ◌≤◌, Bool, true, false, cond, List, [], ◌∷◌, ◌++◌, map, length, get_or, take, drop, set, is_ok, Ok, Err, Result, sym, refl, ap, ◌∙◌, subst, ⊎_elim, arith}
+use Rattle.std.proofs.Common.{◌≡◌, ℕ, ◌+◌, ◌-◌, ◌*◌, ◌<◌, ◌≤◌, Bool, true, false, cond, List, [], ◌∷◌, ◌++◌, map, length, get_or, take, drop, set, is_ok, Ok, Err, Result, sym, refl, ap, ◌∙◌, ap₂, subst, ⊎_elim, arith}
 use Rattle.std.specs.List.{AllByRecursion, range_with_len}
 use Rattle.interface.specs.declared.answers.Refusal.{Refusal}
 use Rattle.interface.specs.declared.answers.Refusal.TheVariants.{BadLength, BadMark, BadCheckWord, NotOurs}
@@ -12,7 +12,8 @@ use Rattle.datagram.specs.Fields.{Fields, Fits}
 use Rattle.datagram.specs.Layout.{two_bytes, header_bytes, code_bytes, body_bytes, check_word, bytes_of}
 use Rattle.datagram.specs.Reading.{two_at, codes_of, codes_part, bad_length, bad_mark, bad_check_word, bad_sender, fields_at, read_of}
 use Rattle.datagram.specs.Laws.{Bytes, Faithful}
-use Rattle.datagram.proofs.Digits.{two_0, two_1, two_back, four_0, four_1, four_2, four_3, four_back}
+use Rattle.std.proofs.lemmas.Nat.{from_le_bytes-to_le_bytes_2, from_le_bytes-to_le_bytes_4}
+use Rattle.datagram.proofs.Digits.{two_of, four_of}
 use Rattle.datagram.proofs.Pairs.{length_codes_of, length_code_bytes, codes_of_code_bytes, code_bytes_codes_of, codes_fit, code_bytes_fit}
 use Rattle.datagram.proofs.Sums.{Checked, checked, altered}
 
@@ -78,7 +79,7 @@ pub written_fields : (d : Fields) → Fits d → fields_at (bytes_of d) ≡ d
 written_fields d f =
     let word = two_bytes (check_word (body_bytes d)) in
     let part : codes_part (bytes_of d) ≡ code_bytes d.codes = take_at (code_bytes d.codes) word (2 * length d.codes) (length_code_bytes d.codes) in
-    same_fields (fields_at (bytes_of d)) d refl (two_back d.match_number f.numbers.match_number) (two_back d.start f.numbers.start) (ap codes_of part ∙ codes_of_code_bytes d.codes f.codes) (two_back d.acknowledgement f.numbers.acknowledgement) (two_back d.report_frame f.numbers.report_frame) (four_back d.digest f.numbers.digest)
+    same_fields (fields_at (bytes_of d)) d refl (from_le_bytes-to_le_bytes_2 d.match_number f.numbers.match_number) (from_le_bytes-to_le_bytes_2 d.start f.numbers.start) (ap codes_of part ∙ codes_of_code_bytes d.codes f.codes) (from_le_bytes-to_le_bytes_2 d.acknowledgement f.numbers.acknowledgement) (from_le_bytes-to_le_bytes_2 d.report_frame f.numbers.report_frame) (from_le_bytes-to_le_bytes_4 d.digest f.numbers.digest)
 
 pub read_back : (d : Fields) → Fits d → read_of (bytes_of d) ≡ Ok d
 read_back d f = sound_read (bytes_of d) (written_sound d f) ∙ ap Ok (written_fields d f)
@@ -98,16 +99,11 @@ written_bytes d seat few k =
 front_is : (n : ℕ) (bs : List ℕ) → n ≤ length bs → take n bs ≡ map (λ k. get_or bs k 0) (range_with_len 0 n)
 front_is n bs h = fill_by_all (λ k. get_or bs k 0) (take n bs) n 0 (length-take-le n bs h) (λ k l. get_or-take n bs k 0 l)
 
-pieces : (a b c d : List ℕ) → a ≡ c → b ≡ d → a ++ b ≡ c ++ d
-pieces a b c d e f i = e i ++ f i
-
 -- the check word at the end
 ends : (bs body : List ℕ) (n : ℕ) → n + 2 ≡ length bs → Bytes bs → body ≡ take n bs → two_at bs n ≡ check_word (take n bs) → bs ≡ body ++ two_bytes (check_word body)
 ends bs body n size fit front word =
-    let low : two_at bs n % 256 ≡ get_or bs n 0 = two_0 (get_or bs n 0) (get_or bs (n + 1) 0) (fit n) (fit (n + 1)) in
-    let high : two_at bs n / 256 % 256 ≡ get_or bs (n + 1) 0 = two_1 (get_or bs n 0) (get_or bs (n + 1) 0) (fit n) (fit (n + 1)) in
     let last : drop (n + 1) bs ≡ get_or bs (n + 1) 0 ∷ [] = drop_more bs (n + 1) 0 (omega arith) ∙ ap (λ xs. get_or bs (n + 1) 0 ∷ xs) (drop_all (n + 1 + 1) bs (omega arith)) in
-    let tail : two_bytes (check_word (take n bs)) ≡ drop n bs = ap two_bytes (sym word) ∙ pieces (_ ∷ []) (_ ∷ []) (_ ∷ []) (_ ∷ []) (ap (λ x. x ∷ []) low) (ap (λ x. x ∷ []) high) ∙ ap (λ xs. get_or bs n 0 ∷ xs) (sym last) ∙ sym (drop_more bs n 0 (omega arith)) in
+    let tail : two_bytes (check_word (take n bs)) ≡ drop n bs = ap two_bytes (sym word) ∙ two_of _ _ (fit n) (fit (n + 1)) ∙ ap (λ xs. get_or bs n 0 ∷ xs) (sym last) ∙ sym (drop_more bs n 0 (omega arith)) in
     rw front (sym (ap (λ xs. take n bs ++ xs) tail ∙ take-append-drop n bs))
 
 -- what is accepted is what its fields give, part by part
@@ -119,23 +115,16 @@ module _ (bs : List ℕ) (s : Sound bs) (fit : Bytes bs) where
   header_is =
       let long = s.long in
       let version = s.version in
-      let number = two_0 (get_or bs 6 0) (get_or bs 7 0) (fit 6) (fit 7) in
-      let number' = two_1 (get_or bs 6 0) (get_or bs 7 0) (fit 6) (fit 7) in
-      let start = two_0 (get_or bs 8 0) (get_or bs 9 0) (fit 8) (fit 9) in
-      let start' = two_1 (get_or bs 8 0) (get_or bs 9 0) (fit 8) (fit 9) in
+      let number = two_of _ _ (fit 6) (fit 7) in
+      let start = two_of _ _ (fit 8) (fit 9) in
       let count : length (codes_of (codes_part bs)) ≡ get_or bs 10 0 = let n = part_length in let m = length_codes_of (codes_part bs) in omega arith in
-      let acknowledgement = two_0 (get_or bs 11 0) (get_or bs 12 0) (fit 11) (fit 12) in
-      let acknowledgement' = two_1 (get_or bs 11 0) (get_or bs 12 0) (fit 11) (fit 12) in
-      let report = two_0 (get_or bs 13 0) (get_or bs 14 0) (fit 13) (fit 14) in
-      let report' = two_1 (get_or bs 13 0) (get_or bs 14 0) (fit 13) (fit 14) in
-      let digest₀ = four_0 (get_or bs 15 0) (get_or bs 16 0) (get_or bs 17 0) (get_or bs 18 0) (fit 15) (fit 16) (fit 17) (fit 18) in
-      let digest₁ = four_1 (get_or bs 15 0) (get_or bs 16 0) (get_or bs 17 0) (get_or bs 18 0) (fit 15) (fit 16) (fit 17) (fit 18) in
-      let digest₂ = four_2 (get_or bs 15 0) (get_or bs 16 0) (get_or bs 17 0) (get_or bs 18 0) (fit 15) (fit 16) (fit 17) (fit 18) in
-      let digest₃ = four_3 (get_or bs 15 0) (get_or bs 16 0) (get_or bs 17 0) (get_or bs 18 0) (fit 15) (fit 16) (fit 17) (fit 18) in
+      let acknowledgement = two_of _ _ (fit 11) (fit 12) in
+      let report = two_of _ _ (fit 13) (fit 14) in
+      let digest = four_of _ _ _ _ (fit 15) (fit 16) (fit 17) (fit 18) in
       let version₀ : get_or bs 3 0 ≡ 1 = omega arith in
       let version₁ : get_or bs 4 0 ≡ 0 = omega arith in
       let front = front_is 19 bs (omega arith) in
-      rw front (λ i. sym s.mark_0 i ∷ sym s.mark_1 i ∷ sym s.mark_2 i ∷ sym version₀ i ∷ sym version₁ i ∷ get_or bs 5 0 ∷ number i ∷ number' i ∷ start i ∷ start' i ∷ count i ∷ acknowledgement i ∷ acknowledgement' i ∷ report i ∷ report' i ∷ digest₀ i ∷ digest₁ i ∷ digest₂ i ∷ digest₃ i ∷ [])
+      rw front (λ i. (sym s.mark_0 i ∷ sym s.mark_1 i ∷ sym s.mark_2 i ∷ sym version₀ i ∷ sym version₁ i ∷ get_or bs 5 0 ∷ []) ++ number i ++ start i ++ (count i ∷ []) ++ acknowledgement i ++ report i ++ digest i)
 
   part_fits : AllByRecursion (λ b. b < 256) (codes_part bs)
   part_fits =
@@ -150,7 +139,7 @@ module _ (bs : List ℕ) (s : Sound bs) (fit : Bytes bs) where
       let m = 2 * get_or bs 10 0 in
       let front = take-take 19 (19 + m) bs (omega arith) in
       let back = drop-take 19 m bs in
-      pieces _ _ _ _ (header_is ∙ sym front) (codes_are ∙ sym back) ∙ take-append-drop 19 (take (19 + m) bs)
+      ap₂ ◌++◌ (header_is ∙ sym front) (codes_are ∙ sym back) ∙ take-append-drop 19 (take (19 + m) bs)
 
   sound_exact : bs ≡ bytes_of (fields_at bs)
   sound_exact =

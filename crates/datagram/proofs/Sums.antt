@@ -1,26 +1,13 @@
 -- The check word, byte by byte.
-use Rattle.std.proofs.Common.{◌≡◌, ℕ, zero, suc, ◌+◌, ◌-◌, ◌*◌, ◌/◌, ◌%◌, ◌^◌, ◌<◌, ◌≤◌, List, [], ◌∷◌, ◌++◌, length, get_or, take, drop, set, refl, ap, ◌∙◌, ⊎_elim, zero-add, arith}
+use Rattle.std.proofs.Common.{◌≡◌, ℕ, zero, suc, ◌+◌, ◌-◌, ◌*◌, ◌/◌, ◌%◌, ◌<◌, ◌≤◌, List, [], ◌∷◌, ◌++◌, length, get_or, take, set, refl, ap, ◌∙◌, ⊎_elim, zero-add, arith}
 use native.Mathlib.Nat.{eq_of_mul-eq-mul_left}
 use lib.Seq.{take-set-lt}
-use Rattle.std.proofs.lemmas.Nat.{mul-le}
-use Rattle.std.proofs.lemmas.List.{drop_more, drop_all, take_at, get_or_at, get_or-append-add, get_or-set_other, get_or-set_same, get_or-take, take-set-le, length-append, length-set, length-take-le}
+use Rattle.std.proofs.lemmas.Nat.{mul-le, from_le_bytes-to_le_bytes_2}
+use Rattle.std.proofs.lemmas.List.{take_at, get_or_at, get_or-append-add, get_or-set_other, get_or-set_same, get_or-take, take-set-le, length-append, length-set, length-take-le}
 use Rattle.std.proofs.lemmas.Bool.{cases_lt, cases_eq}
 use Rattle.datagram.specs.Layout.{two_bytes, weighted, check_word}
 use Rattle.datagram.specs.Reading.{two_at}
 use Rattle.datagram.specs.Laws.{Bytes}
-use Rattle.datagram.proofs.Digits.{two_back}
-
--- one byte more
-pub check_more : (bs : List ℕ) (i s w b : ℕ) → i < length bs → b ≡ get_or bs i 0 → (s + weighted i (drop i bs)) % 65536 ≡ w → ((s + (i + 1) * b) % 2 ^ 32 + weighted (i + 1) (drop (i + 1) bs)) % 65536 ≡ w
-check_more bs i s w b h e inv =
-    let split : weighted i (drop i bs) ≡ (i + 1) * get_or bs i 0 + weighted (i + 1) (drop (i + 1) bs) = ap (weighted i) (drop_more bs i 0 h) in
-    rw e (omega arith)
-
--- no byte left
-pub check_all : (bs : List ℕ) (i s : ℕ) → length bs ≤ i → (s + weighted i (drop i bs)) % 65536 ≡ check_word bs → s % 65536 ≡ check_word bs
-check_all bs i s h inv =
-    let none : weighted i (drop i bs) ≡ 0 = ap (weighted i) (drop_all i bs h) in
-    omega arith
 
 -- the sum changes by the place times the change of the byte
 pub weighted_set : (k : ℕ) (bs : List ℕ) (i b : ℕ) → i < length bs → weighted k (set bs i b) + (k + i + 1) * get_or bs i 0 ≡ weighted k bs + (k + i + 1) * b
@@ -42,7 +29,7 @@ checked body =
     let low = get_or_at body (w % 256) (w / 256 % 256 ∷ []) 0 (length body) refl in
     let high = get_or-append-add body (two_bytes w) 1 0 in
     let front = take_at body (two_bytes w) (length body) refl in
-    rw (n, front, low, high) (two_back w (omega arith))
+    rw (n, front, low, high) (from_le_bytes-to_le_bytes_2 w (omega arith))
 
 -- two bytes that weigh the same at one place
 same_byte : (k a b : ℕ) → k < 85 → a < 256 → b < 256 → ((k + 1) * a) % 65536 ≡ ((k + 1) * b) % 65536 → a ≡ b

@@ -1,8 +1,5 @@
 // A datagram, and the codes that go into one.
-ghost use Rattle.std.specs.Prelude.{◌≤◌};
-ghost use Rattle.interface.specs.Limits.{most_codes};
-
-use interface::limits::MOST_CODES;
+pub use crate::codes::Codes;
 
 // What a seat tells the other; docs/DATAGRAM.md has its bytes. The codes are `Codes` in one that is to be
 // written, and the part of the bytes that they are, two to a code, in one that was read.
@@ -20,12 +17,4 @@ pub struct Datagram<C> {
     pub report_frame: u16,
     // Of the sender's state at the report frame.
     pub digest: u32,
-}
-
-// Codes in order, at most 32.
-#[derive(Clone, Copy)]
-pub struct Codes {
-    pub(crate) codes: [u16; MOST_CODES],
-    pub(crate) len: usize,
-    ghost few: { len ≤ most_codes },
 }

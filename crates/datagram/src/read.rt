@@ -1,7 +1,6 @@
 // A datagram out of bytes.
-ghost use Rattle.std.specs.Prelude.{◌≡◌, ◌+◌, ◌*◌, IfOk, if◌then◌else◌, Some, None};
-ghost use Rattle.std.specs.Option.{option_map};
-ghost use Rattle.datagram.specs.Reading.{codes_part, bad_length, taken_apart, read_of};
+ghost use Rattle.std.specs.Prelude.{◌≡◌, IfOk};
+ghost use Rattle.datagram.specs.Reading.{codes_part, taken_apart, read_of};
 ghost use Rattle.datagram.specs.Meanings.{answered};
 ghost use Rattle.datagram.specs.Laws.{Faithful};
 
@@ -10,79 +9,24 @@ use crate::forms::Datagram;
 use interface::answers::Refusal;
 use interface::limits::MOST_CODES;
 
-// A number of 16 bits.
-fn two(low: u8, high: u8) -> u16
-    ensures { result ≡ low + high * 256 }
-{
-    u16::from_le_bytes([low, high])
-}
-
-// A number of 32 bits.
-fn four(first: u8, second: u8, third: u8, fourth: u8) -> u32
-    ensures { result ≡ first + second * 256 + third * 65536 + fourth * 16777216 }
-{
-    u32::from_le_bytes([first, second, third, fourth])
-}
-
-// The codes, between the fixed fields and the check word, if the length is right.
-fn codes_of(bytes: &[u8]) -> Option<&[u8]>
-    ensures { option_map (λ x. x.now) result ≡ (if bad_length bytes.now then None else Some (codes_part bytes.now)) }
-{
-    let [
-        _,
-        _,
-        _,
-        _,
-        _,
-        _,
-        _,
-        _,
-        _,
-        _,
-        count,
-        _,
-        _,
-        _,
-        _,
-        _,
-        _,
-        _,
-        _,
-        rest @ ..,
-    ] = bytes
-    else {
-        return None;
-    };
-    let [codes @ .., _, _] = rest else {
-        return None;
-    };
-    let count = usize::from(*count);
-    if count > MOST_CODES || codes.len() != 2 * count {
-        return None;
-    }
-    Some(codes)
-}
-
-// The fields at their places, if the length and the mark are right.
+// The fields at their places, if the length and the mark are right. That the codes are the bytes' own is said here and by both functions
+// below: the other clause tells what they are, not where they lie.
 fn take_apart(bytes: &[u8]) -> Result<Datagram<&[u8]>, Refusal>
     ensures answer { answered result ≡ taken_apart bytes.now }
     ensures part { IfOk result (λ d. d.codes.now ≡ codes_part bytes.now) }
 {
-    let Some(codes) = codes_of(bytes) else {
-        return Err(Refusal::BadLength);
-    };
     let [
-        b'R',
-        b'B',
-        b'K',
-        1,
-        0,
+        _,
+        _,
+        _,
+        _,
+        _,
         sender,
         number_0,
         number_1,
         start_0,
         start_1,
-        _,
+        count,
         acknowledgement_0,
         acknowledgement_1,
         report_0,
@@ -91,28 +35,38 @@ fn take_apart(bytes: &[u8]) -> Result<Datagram<&[u8]>, Refusal>
         digest_1,
         digest_2,
         digest_3,
-        ..
+        codes @ ..,
+        _,
+        _,
     ] = bytes
     else {
+        return Err(Refusal::BadLength);
+    };
+    let count = usize::from(*count);
+    if count > MOST_CODES || codes.len() != 2 * count {
+        return Err(Refusal::BadLength);
+    }
+    let [b'R', b'B', b'K', 1, 0, ..] = bytes else {
         return Err(Refusal::BadMark);
     };
     Ok(Datagram {
         sender: *sender,
-        match_number: two(*number_0, *number_1),
-        start: two(*start_0, *start_1),
+        match_number: u16::from_le_bytes([*number_0, *number_1]),
+        start: u16::from_le_bytes([*start_0, *start_1]),
         codes,
-        acknowledgement: two(*acknowledgement_0, *acknowledgement_1),
-        report_frame: two(*report_0, *report_1),
-        digest: four(*digest_0, *digest_1, *digest_2, *digest_3),
+        acknowledgement: u16::from_le_bytes([*acknowledgement_0, *acknowledgement_1]),
+        report_frame: u16::from_le_bytes([*report_0, *report_1]),
+        digest: u32::from_le_bytes([*digest_0, *digest_1, *digest_2, *digest_3]),
     })
 }
 
-// All the checks, one after another.
+// All the checks, one after another; apart from `read`, whose laws follow from the answer, wherever in the checks it is given.
 fn checked(bytes: &[u8]) -> Result<Datagram<&[u8]>, Refusal>
     ensures answer { answered result ≡ read_of bytes.now }
     ensures part { IfOk result (λ d. d.codes.now ≡ codes_part bytes.now) }
 {
     let datagram = take_apart(bytes)?;
+    // By place: of the parts of `split_last_chunk` the proof lacks where they lie.
     let end = bytes.len() - 2;
     if check_word(&bytes[0..end]) != u16::from_le_bytes([bytes[end], bytes[end + 1]]) {
         return Err(Refusal::BadCheckWord);

@@ -1,9 +1,8 @@
 -- Where steering leads: into range, into no wall, and never into one cell.
-use Rattle.std.specs.Prelude.{◌≡◌, ℕ, ◌<◌, Bool, true, false, cond, Some, None, Option, nat_lt}
+use Rattle.std.specs.Prelude.{◌≡◌, ◌<◌, Bool, true, false, cond, Some, None, Option}
 use Rattle.std.proofs.Math.Path.{refl}
-use Rattle.std.proofs.Common.{subst, arith}
+use Rattle.std.proofs.Common.{arith}
 use Rattle.std.specs.Option.{unwrap_or}
-use Rattle.std.proofs.lemmas.Bool.{and_parts, and_from, ltb-true, lt-ltb, not-true, not_from_false}
 use Rattle.std.proofs.lemmas.Bool.Decides.{nat_tests}
 use Rattle.duel.specs.declared.input.Direction.{Direction}
 use Rattle.duel.specs.declared.input.DuelInput.{DuelInput}
@@ -25,34 +24,16 @@ pub record Sound (b : Board) : Type 0 where
   pub second_clear : wall b.walls b.second.cell ≡ false
 
 within_from : (c : Cell) → within c ≡ true → Within c
-within_from c e = let p = and_parts (nat_lt c.column 8) (nat_lt c.row 8) e in (ltb-true _ _ p.0, ltb-true _ _ p.1)
+within_from c e = grind (arith, nat_tests)
 
 within_test : (c : Cell) → Within c → within c ≡ true
-within_test c h = and_from (nat_lt c.column 8) (nat_lt c.row 8) (lt-ltb _ _ h.0) (lt-ltb _ _ h.1)
+within_test c h = grind (arith, nat_tests)
 
 pub sound_from : (b : Board) → sound b ≡ true → Sound b
-sound_from b e =
-    let p = and_parts _ _ e in
-    let cells = and_parts _ _ p.0 in
-    let q = and_parts _ _ p.1 in
-    let scores = and_parts _ _ q.0 in
-    let r = and_parts _ _ q.1 in
-    let clear = and_parts _ _ r.1 in
-    record {
-      first_in = within_from _ cells.0;
-      second_in = within_from _ cells.1;
-      first_score = ltb-true _ _ scores.0;
-      second_score = ltb-true _ _ scores.1;
-      apart = not-true _ r.0;
-      first_clear = not-true _ clear.0;
-      second_clear = not-true _ clear.1;
-    }
+sound_from b e = grind (arith, nat_tests)
 
 pub sound_test : (b : Board) → Sound b → sound b ≡ true
-sound_test b s =
-    and_from _ _ (and_from _ _ (within_test _ s.first_in) (within_test _ s.second_in))
-    (and_from _ _ (and_from _ _ (lt-ltb _ _ s.first_score) (lt-ltb _ _ s.second_score))
-    (and_from _ _ (not_from_false _ s.apart) (and_from _ _ (not_from_false _ s.first_clear) (not_from_false _ s.second_clear))))
+sound_test b s = grind (arith, nat_tests)
 
 -- what is known of a cell that is aimed at
 pub record Aimed (w : Walls) (other c : Cell) : Type 0 where
@@ -61,18 +42,10 @@ pub record Aimed (w : Walls) (other c : Cell) : Type 0 where
   pub free : same_cell c other ≡ false
 
 entered : (w : Walls) (other : Cell) (to : Option Cell) (c : Cell) → ((e : Cell) → to ≡ Some e → Within e) → enterable w other to ≡ Some c → Aimed w other c
-entered w other None c inside e = let z : ◌≡◌ {A = ℕ} 0 1 = cc in absurd (omega arith)
-entered w other (Some t) c inside e = go (wall w t) (same_cell t other) refl refl e
-  where
-    go : (x y : Bool) → wall w t ≡ x → same_cell t other ≡ y → cond x None (cond y None (Some t)) ≡ Some c → Aimed w other c
-    go true y p q r = let z : ◌≡◌ {A = ℕ} 0 1 = cc in absurd (omega arith)
-    go false true p q r = let z : ◌≡◌ {A = ℕ} 0 1 = cc in absurd (omega arith)
-    go false false p q r =
-        let same : t ≡ c = cc in
-        subst (Aimed w other) same (record { inside = inside t refl; clear = p; free = q })
+entered w other to c inside e = grind (arith, nat_tests)
 
 pub aimed : (w : Walls) (me other : Cell) (d : Option Direction) (c : Cell) → Within me → aim w me other d ≡ Some c → Aimed w other c
-aimed w me other None c h e = let z : ◌≡◌ {A = ℕ} 0 1 = cc in absurd (omega arith)
+aimed w me other None c h e = grind (arith, nat_tests)
 aimed w me other (Some d) c h e = entered w other (ahead me d) c (λ n at. ahead_within me d n h at) e
 
 -- a player ends where it was or in what it aimed at
@@ -85,14 +58,7 @@ same_sym : (a b : Cell) → same_cell a b ≡ false → same_cell b a ≡ false
 same_sym a b e = grind (arith, nat_tests)
 
 pub never_one_cell : (a b : Cell) (to₁ to₂ : Option Cell) → same_cell a b ≡ false → ((c : Cell) → to₁ ≡ Some c → same_cell c b ≡ false) → ((e : Cell) → to₂ ≡ Some e → same_cell e a ≡ false) → same_cell (cond (both_aim to₁ to₂) a (unwrap_or to₁ a)) (cond (both_aim to₁ to₂) b (unwrap_or to₂ b)) ≡ false
-never_one_cell a b None None apart p q = apart
-never_one_cell a b None (Some e) apart p q = same_sym e a (q e refl)
-never_one_cell a b (Some c) None apart p q = p c refl
-never_one_cell a b (Some c) (Some e) apart p q = go (same_cell c e) refl
-  where
-    go : (t : Bool) → same_cell c e ≡ t → same_cell (cond t a c) (cond t b e) ≡ false
-    go true h = apart
-    go false h = h
+never_one_cell a b to₁ to₂ apart p q = grind (arith, nat_tests)
 
 module _ (b : Board) (s : Sound b) (i j : DuelInput) where
   first_aimed : (c : Cell) → first_aim b i ≡ Some c → Aimed b.walls b.second.cell c

@@ -1,6 +1,6 @@
 // The grid: cells, walls and players, and one frame of play on it.
-ghost use Rattle.std.specs.Prelude.{◌≡◌, ◌<◌, true, ◌&&◌};
-ghost use Rattle.duel.specs.Boards.{Within, within, same_cell, ahead, wall, aim, both_aim, sees, moved, fired, played, sound};
+ghost use Rattle.std.specs.Prelude.{◌≡◌, true, not, ◌&&◌, nat_lt};
+ghost use Rattle.duel.specs.Boards.{Within, within, ahead, wall, aim, both_aim, sees, moved, fired, played, sound};
 
 use crate::input::{Direction, DuelInput};
 
@@ -10,27 +10,28 @@ pub const SIDE: u32 = 8;
 // No score passes this.
 pub const TOP_SCORE: u32 = 65_535;
 
-#[derive(Clone, Copy)]
+#[derive(Clone, Copy, Debug, PartialEq, Eq)]
 pub struct Cell {
     pub column: u32,
     pub row: u32,
 }
 
 // A bit for each cell, set for a wall: bit 8 × (row mod 4) + column, of `upper` for rows 0 to 3, else of `lower`.
-#[derive(Clone, Copy)]
+#[derive(Clone, Copy, Debug, PartialEq, Eq)]
 pub struct Walls {
     pub upper: u32,
     pub lower: u32,
 }
 
-#[derive(Clone, Copy)]
+#[derive(Clone, Copy, Debug, PartialEq, Eq)]
 pub struct Player {
     pub cell: Cell,
     pub facing: Direction,
     pub score: u32,
 }
 
-#[derive(Clone, Copy)]
+// Two fields and no array: the words, a trail and the laws of a frame speak of each seat by name.
+#[derive(Clone, Copy, Debug, PartialEq, Eq)]
 pub struct Board {
     pub first: Player,
     pub second: Player,
@@ -44,12 +45,6 @@ impl Cell {
         self.column < SIDE && self.row < SIDE
     }
 
-    pub fn same(self, other: Cell) -> bool
-        ensures { result ≡ same_cell self other }
-    {
-        self.column == other.column && self.row == other.row
-    }
-
     // The next cell that way, or nothing off the grid.
     pub fn ahead(self, direction: Direction) -> Option<Cell>
         ensures { result ≡ ahead self direction }
@@ -57,20 +52,20 @@ impl Cell {
         let Cell { column, row } = self;
         match direction {
             Direction::Up if row > 0 => Some(Cell {
-                column,
                 row: row - 1,
+                ..self
             }),
             Direction::Right if column < SIDE - 1 => Some(Cell {
                 column: column + 1,
-                row,
+                ..self
             }),
             Direction::Down if row < SIDE - 1 => Some(Cell {
-                column,
                 row: row + 1,
+                ..self
             }),
             Direction::Left if column > 0 => Some(Cell {
                 column: column - 1,
-                row,
+                ..self
             }),
             _ => None,
         }
@@ -85,7 +80,7 @@ impl Walls {
         cell.is_within() && self.at(cell)
     }
 
-    pub(crate) fn at(self, cell: Cell) -> bool
+    fn at(self, cell: Cell) -> bool
         requires { Within cell }
         ensures { result ≡ wall self cell }
     {
@@ -94,55 +89,24 @@ impl Walls {
     }
 }
 
-// The cell that a seat at `me` steers into, or nothing where it stays.
-fn aim(walls: Walls, me: Cell, other: Cell, steer: Option<Direction>) -> Option<Cell>
-    requires { Within me }
-    ensures { result ≡ aim walls me other steer }
-{
-    let Some(direction) = steer else {
-        return None;
-    };
-    let Some(cell) = me.ahead(direction) else {
-        return None;
-    };
-    if walls.at(cell) || cell.same(other) {
-        None
-    } else {
-        Some(cell)
-    }
-}
-
-fn both_aim(first: Option<Cell>, second: Option<Cell>) -> bool
-    ensures { result ≡ both_aim first second }
-{
-    match (first, second) {
-        (Some(a), Some(b)) => a.same(b),
-        _ => false,
-    }
-}
-
-// Whether a scan from `from` meets the target before a wall or the edge.
-fn sees(walls: Walls, from: Cell, facing: Direction, target: Cell) -> bool
-    requires { Within from }
-    ensures { result ≡ sees 8 walls from facing target }
-{
-    let mut cell = from;
-    for _ in 0..SIDE {
-        let Some(next) = cell.ahead(facing) else {
-            return false;
-        };
-        if next.same(target) {
-            return true;
-        }
-        if walls.at(next) {
-            return false;
-        }
-        cell = next;
-    }
-    false
-}
-
+// That the cell is on the grid is asked below, and is no fact of `Cell`: `is_within` and `has` speak of cells off the grid too.
 impl Player {
+    // In range, and in no wall.
+    fn is_on(self, walls: Walls) -> bool
+        ensures { result ≡ (within self.cell && (nat_lt self.score 65536 && not (wall walls self.cell))) }
+    {
+        self.cell.is_within() && self.score <= TOP_SCORE && !walls.at(self.cell)
+    }
+
+    // The cell that the player steers into, or nothing where it stays.
+    fn aim(self, walls: Walls, other: Cell, steer: Option<Direction>) -> Option<Cell>
+        requires { Within self.cell }
+        ensures { result ≡ aim walls self.cell other steer }
+    {
+        let cell = self.cell.ahead(steer?)?;
+        (!walls.at(cell) && cell != other).then_some(cell)
+    }
+
     fn moved(self, steer: Option<Direction>, to: Option<Cell>, clash: bool) -> Player
         ensures { result ≡ moved self steer to clash }
     {
@@ -153,26 +117,47 @@ impl Player {
                 to.unwrap_or(self.cell)
             },
             facing: steer.unwrap_or(self.facing),
-            score: self.score,
+            ..self
         }
     }
 
+    // Whether a scan straight ahead meets the target before a wall or the edge.
+    fn sees(self, walls: Walls, target: Cell) -> bool
+        requires { Within self.cell }
+        ensures { result ≡ sees 8 walls self.cell self.facing target }
+    {
+        let mut cell = self.cell;
+        while let Some(next) = cell.ahead(self.facing) {
+            if next == target {
+                return true;
+            }
+            if walls.at(next) {
+                return false;
+            }
+            cell = next;
+        }
+        false
+    }
+
     fn fired(self, walls: Walls, other: Player, fire: bool) -> Player
-        requires place { Within self.cell }
-        requires room { self.score < 65536 }
+        requires { Within self.cell }
         ensures { result ≡ fired walls self other fire }
     {
-        let hit = fire && sees(walls, self.cell, self.facing, other.cell);
-        Player {
-            cell: self.cell,
-            facing: self.facing,
-            score: if hit {
-                (self.score + 1).min(TOP_SCORE)
-            } else {
-                self.score
-            },
+        if fire && self.sees(walls, other.cell) {
+            Player {
+                score: self.score.saturating_add(1).min(TOP_SCORE),
+                ..self
+            }
+        } else {
+            self
         }
     }
+}
+
+fn both_aim(first: Option<Cell>, second: Option<Cell>) -> bool
+    ensures { result ≡ both_aim first second }
+{
+    first.is_some() && first == second
 }
 
 impl Board {
@@ -185,13 +170,7 @@ impl Board {
             second,
             walls,
         } = self;
-        let in_range = first.cell.is_within() && second.cell.is_within();
-        in_range
-            && first.score <= TOP_SCORE
-            && second.score <= TOP_SCORE
-            && !first.cell.same(second.cell)
-            && !walls.at(first.cell)
-            && !walls.at(second.cell)
+        first.is_on(walls) && second.is_on(walls) && first.cell != second.cell
     }
 
     // One frame: both steer, then both fire from where they now stand.
@@ -199,12 +178,16 @@ impl Board {
         requires { sound self ≡ true }
         ensures { result ≡ played self first second }
     {
-        let walls = self.walls;
-        let first_aim = aim(walls, self.first.cell, self.second.cell, first.steer);
-        let second_aim = aim(walls, self.second.cell, self.first.cell, second.steer);
+        let Board {
+            first: one,
+            second: two,
+            walls,
+        } = self;
+        let first_aim = one.aim(walls, two.cell, first.steer);
+        let second_aim = two.aim(walls, one.cell, second.steer);
         let clash = both_aim(first_aim, second_aim);
-        let one = self.first.moved(first.steer, first_aim, clash);
-        let two = self.second.moved(second.steer, second_aim, clash);
+        let one = one.moved(first.steer, first_aim, clash);
+        let two = two.moved(second.steer, second_aim, clash);
         Board {
             first: one.fired(walls, two, first.fire),
             second: two.fired(walls, one, second.fire),

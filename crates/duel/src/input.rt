@@ -1,46 +1,50 @@
 // What a seat may do in one frame of Duel.
 ghost use Rattle.std.specs.Prelude.{◌≡◌};
+ghost use Rattle.std.specs.Option.{ok_or};
 ghost use Rattle.duel.specs.Inputs.{number_of_direction, direction_numbered, code_of, input_of, staying};
 ghost use Rattle.duel.specs.Codes.{code_of_read};
 ghost use Rattle.std.proofs.Common.{rules};
 
 use interface::input::InputKind;
 
-#[derive(Clone, Copy)]
+#[derive(Clone, Copy, Debug, PartialEq, Eq)]
 pub enum Direction {
-    Up,
-    Right,
-    Down,
-    Left,
+    Up = 1,
+    Right = 2,
+    Down = 3,
+    Left = 4,
 }
 
-impl Direction {
-    // 1 up, 2 right, 3 down, 4 left.
-    pub fn number(self) -> u32
-        ensures { result ≡ number_of_direction self }
-    {
-        match self {
-            Direction::Up => 1,
-            Direction::Right => 2,
-            Direction::Down => 3,
-            Direction::Left => 4,
-        }
-    }
+// A number that no direction has.
+#[derive(Clone, Copy, Debug, PartialEq, Eq)]
+pub struct NoDirection(pub u32);
 
-    pub fn from_number(number: u32) -> Option<Direction>
-        ensures { result ≡ direction_numbered number }
-    {
+impl From<Direction> for u32 {
+    ghost from_gives = { λ direction number. number ≡ number_of_direction direction };
+
+    fn from(direction: Direction) -> u32 {
+        direction as u32
+    }
+}
+
+impl TryFrom<u32> for Direction {
+    type Error = NoDirection;
+
+    ghost try_from_gives = { λ number r. r ≡ ok_or (direction_numbered number) (record { 0 = number }) };
+
+    // The numbers once more: a cast leads from a direction to its number, and none leads back.
+    fn try_from(number: u32) -> Result<Direction, NoDirection> {
         match number {
-            1 => Some(Direction::Up),
-            2 => Some(Direction::Right),
-            3 => Some(Direction::Down),
-            4 => Some(Direction::Left),
-            _ => None,
+            1 => Ok(Direction::Up),
+            2 => Ok(Direction::Right),
+            3 => Ok(Direction::Down),
+            4 => Ok(Direction::Left),
+            _ => Err(NoDirection(number)),
         }
     }
 }
 
-#[derive(Clone, Copy)]
+#[derive(Clone, Copy, Debug, PartialEq, Eq)]
 pub struct DuelInput {
     pub steer: Option<Direction>,
     pub fire: bool,
@@ -67,27 +71,15 @@ impl InputKind for DuelInput {
             1 => true,
             _ => return None,
         };
-        let direction = u32::from(number % 8);
-        if direction == 0 {
-            return Some(DuelInput { steer: None, fire });
-        }
-        match Direction::from_number(direction) {
-            Some(direction) => Some(DuelInput {
-                steer: Some(direction),
-                fire,
-            }),
-            None => None,
-        }
+        let steer = match u32::from(number % 8) {
+            0 => None,
+            direction => Some(Direction::try_from(direction).ok()?),
+        };
+        Some(DuelInput { steer, fire })
     }
 
     fn code(self) -> u16 {
-        let direction = match self.steer {
-            None => 0,
-            Some(Direction::Up) => 1,
-            Some(Direction::Right) => 2,
-            Some(Direction::Down) => 3,
-            Some(Direction::Left) => 4,
-        };
+        let direction = self.steer.map_or(0, |direction| direction as u16);
         if self.fire { direction + 8 } else { direction }
     }
 

@@ -1,13 +1,15 @@
 // Duel as a game.
-ghost use Rattle.std.specs.Prelude.{◌≡◌, ◌<◌, take};
+ghost use Rattle.std.specs.Prelude.{◌≡◌, ◌/◌, ◌%◌, take};
+ghost use Rattle.std.specs.Bool.{then_some};
 ghost use Rattle.std.specs.Option.{option_map};
 ghost use Rattle.interface.specs.Games.{if_lawful};
-ghost use Rattle.duel.specs.Boards.{played};
+ghost use Rattle.duel.specs.Boards.{Within, sound, played};
 ghost use Rattle.duel.specs.Laws.{Standing, Frame};
+ghost use Rattle.duel.specs.Inputs.{direction_numbered};
 ghost use Rattle.duel.specs.Meaning.{duel_words};
-ghost use Rattle.duel.specs.Words.{spelled, lawful, opening, next, undone, pose, trail_of};
+ghost use Rattle.duel.specs.Words.{words_of, player, spelled, lawful, opening, next, undone, pose, trail_of};
 ghost use Rattle.duel.specs.Spelling.{lawful_words};
-ghost use Rattle.std.proofs.Common.{rules, arith};
+ghost use Rattle.std.proofs.Common.{rules};
 
 use crate::board::{Board, Cell, Player, Walls};
 use crate::input::{Direction, DuelInput};
@@ -15,67 +17,92 @@ use crate::state::Duel;
 use interface::answers::Refusal;
 use interface::game::{Game, Trail};
 
-// The board that the first ten words spell, if both facings are 1 to 4.
-fn read_board(words: &[u32]) -> Option<Board>
-    ensures { result ≡ spelled (take 10 words.now) }
-{
-    let [c0, r0, f0, s0, c1, r1, f1, s1, upper, lower, ..] = words else {
-        return None;
-    };
-    let Some(first) = Direction::from_number(*f0) else {
-        return None;
-    };
-    let Some(second) = Direction::from_number(*f1) else {
-        return None;
-    };
-    Some(Board {
-        first: Player {
-            cell: Cell {
-                column: *c0,
-                row: *r0,
-            },
-            facing: first,
-            score: *s0,
-        },
-        second: Player {
-            cell: Cell {
-                column: *c1,
-                row: *r1,
-            },
-            facing: second,
-            score: *s1,
-        },
-        walls: Walls {
-            upper: *upper,
-            lower: *lower,
-        },
-    })
-}
-
 impl Player {
+    // The player of a column, a row, a facing and a score, if the facing is 1 to 4.
+    fn from_words(column: u32, row: u32, facing: u32, score: u32) -> Option<Player>
+        ensures { result ≡ option_map (λ f. player column row f score) (direction_numbered facing) }
+    {
+        Some(Player {
+            cell: Cell { column, row },
+            facing: Direction::try_from(facing).ok()?,
+            score,
+        })
+    }
+
     // Where the player stands and faces, in one word.
     fn pose(self) -> u32
-        requires column { self.cell.column < 8 }
-        requires row { self.cell.row < 8 }
+        requires { Within self.cell }
         ensures { result ≡ pose self }
     {
-        self.cell.column + 8 * self.cell.row + 64 * self.facing.number()
+        self.cell.column + 8 * self.cell.row + 64 * u32::from(self.facing)
+    }
+
+    // The player of a pose and a score, if the facing is 1 to 4.
+    fn from_pose(pose: u32, score: u32) -> Option<Player>
+        ensures { result ≡ option_map (λ f. player (pose % 8) (pose / 8 % 8) f score) (direction_numbered (pose / 64)) }
+    {
+        Player::from_words(pose % 8, pose / 8 % 8, pose / 64, score)
+    }
+}
+
+impl Board {
+    // Column, row, facing and score of seat 0, the same of seat 1, then the two words of walls.
+    pub fn words(self) -> [u32; 10]
+        ensures { result ≡ words_of self }
+    {
+        let Board {
+            first,
+            second,
+            walls,
+        } = self;
+        [
+            first.cell.column,
+            first.cell.row,
+            first.facing.into(),
+            first.score,
+            second.cell.column,
+            second.cell.row,
+            second.facing.into(),
+            second.score,
+            walls.upper,
+            walls.lower,
+        ]
+    }
+
+    // The board that the first ten words spell, if both facings are 1 to 4.
+    fn from_words(words: &[u32]) -> Option<Board>
+        ensures { result ≡ spelled (take 10 words.now) }
+    {
+        let &[c0, r0, f0, s0, c1, r1, f1, s1, upper, lower, ..] = words else {
+            return None;
+        };
+        Some(Board {
+            first: Player::from_words(c0, r0, f0, s0)?,
+            second: Player::from_words(c1, r1, f1, s1)?,
+            walls: Walls { upper, lower },
+        })
     }
 }
 
 impl Duel {
-    // The state of the first ten words, if they are lawful.
-    pub fn from_words(words: &[u32]) -> Option<Duel>
-        ensures { option_map duel_words result ≡ if_lawful lawful (take 10 words.now) }
+    // The state of a board, if it is sound.
+    fn of(board: Board) -> Option<Duel>
+        ensures { option_map duel_words result ≡ then_some (sound board) (words_of board) }
     {
-        let Some(board) = read_board(words) else {
-            return None;
-        };
+        // A closure for `then` would need the board's soundness as a clause of its own.
         if board.is_sound() {
             Some(Duel { board })
         } else {
             None
         }
+    }
+
+    // The state of the first ten words, if they are lawful.
+    #[tactic(auto, using(crate::specs::Spelling::kept_if_sound))]
+    pub fn from_words(words: &[u32]) -> Option<Duel>
+        ensures { option_map duel_words result ≡ if_lawful lawful (take 10 words.now) }
+    {
+        Duel::of(Board::from_words(words)?)
     }
 
     // What the players stand on: each on the grid, never in one cell, never in a wall.
@@ -102,6 +129,18 @@ impl Duel {
         self.board = self.board.play(first, second);
         trail
     }
+
+    // The state that a trail leads back to, if it is lawful.
+    fn before(self, trail: &Trail) -> Option<Duel>
+        ensures { option_map duel_words result ≡ undone (duel_words self) trail.now }
+    {
+        let [pose0, score0, pose1, score1] = *trail;
+        Duel::of(Board {
+            first: Player::from_pose(pose0, score0)?,
+            second: Player::from_pose(pose1, score1)?,
+            walls: self.board.walls,
+        })
+    }
 }
 
 impl Game for Duel {
@@ -109,7 +148,7 @@ impl Game for Duel {
 
     const W: u32 = 10;
 
-    ghost width = { 10 };
+    ghost W = { 10 };
 
     ghost words = { duel_words };
 
@@ -121,17 +160,13 @@ impl Game for Duel {
 
     ghost undone = { undone };
 
-    ghost some_words = { first_of (Prim.search rules, Prim.grind (arith, Self.row.coded.inj)) };
+    ghost some_words = { Prim.search rules };
 
-    ghost few_words = { first_of (Prim.search rules, Prim.grind (arith, Self.row.coded.inj)) };
+    ghost few_words = { Prim.search rules };
 
-    ghost always_wide = { first_of (Prim.search rules, Prim.grind (arith, Self.row.coded.inj)) };
+    ghost always_wide = { Prim.search rules };
 
     ghost always_lawful = { λ d. lawful_words d.board d.lawful };
-
-    fn width() -> u32 {
-        Self::W
-    }
 
     fn open(seed: u32) -> Duel {
         Duel {
@@ -159,54 +194,16 @@ impl Game for Duel {
     }
 
     fn undo(&mut self, trail: &Trail) -> Result<(), Refusal> {
-        let [pose0, score0, pose1, score1] = *trail;
-        let Walls { upper, lower } = self.board.walls;
-        let words = [
-            pose0 % 8,
-            pose0 / 8 % 8,
-            pose0 / 64,
-            score0,
-            pose1 % 8,
-            pose1 / 8 % 8,
-            pose1 / 64,
-            score1,
-            upper,
-            lower,
-        ];
-        let Some(before) = Duel::from_words(&words) else {
-            return Err(Refusal::Unlawful);
-        };
-        *self = before;
+        *self = self.before(trail).ok_or(Refusal::Unlawful)?;
         Ok(())
     }
 
     fn word(&self, k: u32) -> Option<u32> {
-        let Board {
-            first,
-            second,
-            walls,
-        } = self.board;
-        let word = match k {
-            0 => first.cell.column,
-            1 => first.cell.row,
-            2 => first.facing.number(),
-            3 => first.score,
-            4 => second.cell.column,
-            5 => second.cell.row,
-            6 => second.facing.number(),
-            7 => second.score,
-            8 => walls.upper,
-            9 => walls.lower,
-            _ => return None,
-        };
-        Some(word)
+        self.board.words().get(k as usize).copied()
     }
 
     fn restore(&mut self, from: &[u32; 72]) -> Result<(), Refusal> {
-        let Some(restored) = Duel::from_words(from) else {
-            return Err(Refusal::Unlawful);
-        };
-        *self = restored;
+        *self = Duel::from_words(from).ok_or(Refusal::Unlawful)?;
         Ok(())
     }
 }

@@ -4,7 +4,7 @@ ghost use Rattle.duel.specs.Boards.{sound};
 
 use crate::board::Board;
 
-#[derive(Clone, Copy)]
+#[derive(Clone, Copy, Debug, PartialEq, Eq)]
 pub struct Duel {
     pub board: Board,
     ghost lawful: { sound board ≡ true },

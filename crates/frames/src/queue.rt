@@ -28,15 +28,19 @@ impl FrameQueue {
         self.next
     }
 
+    // Whether a frame is one of the 32 before the next.
+    fn reaches(&self, frame: u32) -> bool
+        ensures { result ≡ in_reach self.now.next frame }
+    {
+        frame < self.next && (self.next - frame) as usize <= QUEUE_SLOTS
+    }
+
     // The value of a frame, or nothing where it is not held or the slots are not 32.
     pub fn get<T: Copy>(&self, slots: &[T], frame: u32) -> Option<T>
         ensures value { result ≡ held slots.now self.now.next frame }
         ensures exact { is_some result ≡ (whole slots.now && in_reach self.now.next frame) }
     {
-        if slots.len() != QUEUE_SLOTS
-            || frame >= self.next
-            || (self.next - frame) as usize > QUEUE_SLOTS
-        {
+        if slots.len() != QUEUE_SLOTS || !self.reaches(frame) {
             return None;
         }
         Some(slots[frame as usize % QUEUE_SLOTS])
@@ -51,15 +55,12 @@ impl FrameQueue {
     {
         if slots.len() != QUEUE_SLOTS
             || frame > TOP_FRAME
-            || frame > self.next
-            || (self.next - frame) as usize > QUEUE_SLOTS
+            || !(self.reaches(frame) || frame == self.next)
         {
             return Err(Refusal::BadFrame);
         }
         slots[frame as usize % QUEUE_SLOTS] = value;
-        *self = FrameQueue {
-            next: self.next.max(frame + 1),
-        };
+        self.next = self.next.max(frame + 1);
         Ok(())
     }
 }

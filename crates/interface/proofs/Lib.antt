@@ -2,4 +2,3 @@ pub mod Places
 pub mod Reach
 pub mod Replays
 pub mod Slots
-pub mod Sums

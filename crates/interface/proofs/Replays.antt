@@ -8,11 +8,10 @@ module _ {I : Type 0} (next : State → I → I → State) where
   -- a loop over the inputs: one step more, and the end
   pub replayed_more : (ss after all : List State) (ps : List (I × I)) (k : ℕ) (p : I × I) → k < length ps → p ≡ get_or ps k p → after ≡ advanced next ss p.0 p.1 → replayed next ss (drop k ps) ≡ all → replayed next after (drop (k + 1) ps) ≡ all
   replayed_more ss after all ps k p h is step inv =
-      let split : drop k ps ≡ p ∷ drop (k + 1) ps = drop_more ps k p h ∙ ap (λ q. q ∷ drop (k + 1) ps) (sym is) in
-      ap (λ ts. replayed next ts (drop (k + 1) ps)) step ∙ sym (ap (replayed next ss) split) ∙ inv
+      let split : drop k ps ≡ get_or ps k p ∷ drop (k + 1) ps = drop_more ps k p h in cc
 
   pub replayed_all : (ss all : List State) (ps : List (I × I)) (k : ℕ) → length ps ≤ k → replayed next ss (drop k ps) ≡ all → ss ≡ all
-  replayed_all ss all ps k h inv = sym (ap (replayed next ss) (drop_all k ps h)) ∙ inv
+  replayed_all ss all ps k h inv = let none = drop_all k ps h in cc
 
   -- a list of nine at most stays one
   pub replayed_few : (ss : List State) (ps : List (I × I)) → length ss ≤ 9 → length (replayed next ss ps) ≤ 9

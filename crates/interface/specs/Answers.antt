@@ -1,5 +1,7 @@
 -- The table of answers: the number of each refusal, and the two that accept.
 use Rattle.std.specs.Prelude.{ℕ}
+use Rattle.interface.specs.declared.answers.Acceptance.{Acceptance}
+use Rattle.interface.specs.declared.answers.Acceptance.TheVariants.{Accepted, AcceptedAndParted}
 use Rattle.interface.specs.declared.answers.Refusal.{Refusal}
 use Rattle.interface.specs.declared.answers.Refusal.TheVariants.{BadLength, BadMark, BadCheckWord, NotOurs, UnreadCode, StartTooLate, EndTooLate, AcknowledgementTooLate, ReportTooLate, Parted, MatchOver, TooFarAhead, Unacknowledged, BufferTooShort, OutOfReach, Unlawful, NoSuchDatagram, LogFull, BadFrame, NoSuchSeat, BadFirstLine, BadLine, BadNumber, BadEnding, TraceTooLong}
 
@@ -8,6 +10,10 @@ accepted = 0
 
 abbrev pub accepted_and_parted : ℕ
 accepted_and_parted = 30
+
+abbrev pub acceptance_number : Acceptance → ℕ
+acceptance_number Accepted = accepted
+acceptance_number AcceptedAndParted = accepted_and_parted
 
 abbrev pub number_of : Refusal → ℕ
 number_of BadLength = 1

@@ -1,106 +1,82 @@
 // The table of answers: 0 and 30 accept, and each other number is one refusal.
 ghost use Rattle.std.specs.Prelude.{◌≡◌};
-ghost use Rattle.interface.specs.Answers.{accepted, accepted_and_parted, number_of};
+ghost use Rattle.interface.specs.Answers.{acceptance_number, number_of};
 
-// Accepted.
-pub const ACCEPTED: u32 = 0;
-
-// Accepted, and the seat has parted from the other.
-pub const ACCEPTED_AND_PARTED: u32 = 30;
-
-// The two accepting numbers are those that contracts speak of.
-pub fn accepting() -> (u32, u32)
-    ensures { result ≡ (accepted, accepted_and_parted) }
-{
-    (ACCEPTED, ACCEPTED_AND_PARTED)
+// How a call was accepted, with its number in the table.
+#[derive(Clone, Copy, PartialEq, Eq, Debug)]
+pub enum Acceptance {
+    Accepted = 0,
+    // The seat has parted from the other.
+    AcceptedAndParted = 30,
 }
 
-// Why a call refused. Each case is one row of the table in docs/ANSWERS.md.
-#[derive(Clone, Copy, Debug)]
+impl Acceptance {
+    pub fn number(self) -> u32
+        ensures { result ≡ acceptance_number self }
+    {
+        self as u32
+    }
+}
+
+// Why a call refused, with its number in the table of docs/ANSWERS.md.
+#[derive(Clone, Copy, PartialEq, Eq, Debug)]
 pub enum Refusal {
     // A datagram under 21 bytes, with more than 32 codes, or of a length that its count does not give.
-    BadLength,
+    BadLength = 1,
     // A datagram with another mark or version.
-    BadMark,
+    BadMark = 2,
     // A datagram with another check word.
-    BadCheckWord,
+    BadCheckWord = 3,
     // A datagram of another match, or not of the other seat.
-    NotOurs,
+    NotOurs = 4,
     // A code that the input kind does not read.
-    UnreadCode,
+    UnreadCode = 5,
     // A datagram that starts above the known inputs.
-    StartTooLate,
+    StartTooLate = 6,
     // A datagram that ends too far ahead.
-    EndTooLate,
+    EndTooLate = 7,
     // An acknowledgement of frames not played.
-    AcknowledgementTooLate,
+    AcknowledgementTooLate = 8,
     // A report on a state that is not played or not confirmed.
-    ReportTooLate,
+    ReportTooLate = 9,
     // The seat has parted.
-    Parted,
+    Parted = 10,
     // The match has its last frame.
-    MatchOver,
+    MatchOver = 11,
     // Eight frames are played on guesses.
-    TooFarAhead,
+    TooFarAhead = 12,
     // Thirty-two inputs are not acknowledged.
-    Unacknowledged,
+    Unacknowledged = 13,
     // A buffer shorter than the datagram.
-    BufferTooShort,
+    BufferTooShort = 14,
     // Going back past what the keeper holds.
-    OutOfReach,
+    OutOfReach = 15,
     // A state that the game's rule forbids.
-    Unlawful,
+    Unlawful = 16,
     // No such datagram in the log, or the taking seat sent it itself.
-    NoSuchDatagram,
+    NoSuchDatagram = 17,
     // The log has no free record.
-    LogFull,
+    LogFull = 18,
     // Not 32 slots, or a frame that is neither held nor next, or is above 65,535.
-    BadFrame,
+    BadFrame = 20,
     // A seat that is neither 0 nor 1.
-    NoSuchSeat,
+    NoSuchSeat = 21,
     // A trace whose first line is missing or wrong.
-    BadFirstLine,
+    BadFirstLine = 24,
     // A trace line with no such first word and number of words.
-    BadLine,
+    BadLine = 25,
     // A number of a trace line that is malformed or out of range.
-    BadNumber,
+    BadNumber = 26,
     // A trace line without its line feed, a trace without `end`, or a line after it.
-    BadEnding,
+    BadEnding = 27,
     // A trace that is too long for the program.
-    TraceTooLong,
+    TraceTooLong = 28,
 }
 
 impl Refusal {
-    // The refusal's number in the table.
     pub fn number(self) -> u32
         ensures { result ≡ number_of self }
     {
-        match self {
-            Refusal::BadLength => 1,
-            Refusal::BadMark => 2,
-            Refusal::BadCheckWord => 3,
-            Refusal::NotOurs => 4,
-            Refusal::UnreadCode => 5,
-            Refusal::StartTooLate => 6,
-            Refusal::EndTooLate => 7,
-            Refusal::AcknowledgementTooLate => 8,
-            Refusal::ReportTooLate => 9,
-            Refusal::Parted => 10,
-            Refusal::MatchOver => 11,
-            Refusal::TooFarAhead => 12,
-            Refusal::Unacknowledged => 13,
-            Refusal::BufferTooShort => 14,
-            Refusal::OutOfReach => 15,
-            Refusal::Unlawful => 16,
-            Refusal::NoSuchDatagram => 17,
-            Refusal::LogFull => 18,
-            Refusal::BadFrame => 20,
-            Refusal::NoSuchSeat => 21,
-            Refusal::BadFirstLine => 24,
-            Refusal::BadLine => 25,
-            Refusal::BadNumber => 26,
-            Refusal::BadEnding => 27,
-            Refusal::TraceTooLong => 28,
-        }
+        self as u32
     }
 }

@@ -9,10 +9,9 @@ pub fn digest<G: Game>(game: &G) -> u32
     ensures { result ≡ digest_of (G.words game.now) }
 {
     let mut sum = 0u32;
-    let mut k = 0u32;
-    while let Some(word) = game.word(k) {
+    for k in 0..G::W {
+        let word = game.word(k).unwrap();
         sum = sum.wrapping_add((2 * k + 1).wrapping_mul(word));
-        k += 1;
     }
     sum
 }

@@ -13,10 +13,10 @@ pub type Trail = [u32; 4];
 pub trait Game: Copy {
     type Input: InputKind;
 
-    // The number of words, 1 to 72.
+    // The number of words, 1 to 72, for code and for clauses.
     const W: u32;
 
-    ghost width: { ℕ };
+    ghost W: { ℕ };
 
     // What a value means. Two values with the same words are the same state.
     ghost words: { Self → State };
@@ -31,10 +31,6 @@ pub trait Game: Copy {
 
     // The state that a trail leads back to, or nothing where that is unlawful.
     ghost undone: { State → List ℕ → Option State };
-
-    // W itself, which a clause cannot name.
-    fn width() -> u32
-        ensures { result ≡ width };
 
     fn open(seed: u32) -> Self
         ensures { words result ≡ opening seed };
@@ -54,15 +50,15 @@ pub trait Game: Copy {
 
     // The state of the first W words, if that is lawful.
     fn restore(&mut self, from: &[u32; 72]) -> Result<(), Refusal>
-        ensures answer { result ≡ or_unlawful (if_lawful lawful (take width from.now)) }
-        ensures state { words self.new ≡ or_kept (if_lawful lawful (take width from.now)) (words self.old) }
+        ensures answer { result ≡ or_unlawful (if_lawful lawful (take W from.now)) }
+        ensures state { words self.new ≡ or_kept (if_lawful lawful (take W from.now)) (words self.old) }
         ensures same { is_ok result ≡ false → self.new ≡ self.old };
 
-    ghost some_words: { 0 < width };
+    ghost some_words: { 0 < W };
 
-    ghost few_words: { width ≤ most_words };
+    ghost few_words: { W ≤ most_words };
 
-    ghost always_wide: { (g : Self) → length (words g) ≡ width };
+    ghost always_wide: { (g : Self) → length (words g) ≡ W };
 
     ghost always_lawful: { (g : Self) → lawful (words g) ≡ true };
 }

@@ -14,11 +14,11 @@ pub trait Keeper<G: Game> {
 
     // The opening alone.
     fn open(seed: u32) -> Self
-        ensures { (kept result).states ≡ G.Game.opening seed ∷ [] };
+        ensures { (kept result).states ≡ G.opening seed ∷ [] };
 
     // A frame with the inputs of seats 0 and 1.
     fn advance(&mut self, first: G::Input, second: G::Input)
-        ensures { (kept self.new).states ≡ advanced G.Game.next (kept self.old).states first second };
+        ensures { (kept self.new).states ≡ advanced G.next (kept self.old).states first second };
 
     // Drops the newest frames and owes as many, where more states are listed than that.
     fn go_back(&mut self, frames: u32) -> Result<Debt, Refusal>
@@ -43,7 +43,7 @@ pub fn replay<G: Game, K: Keeper<G>>(
     second: G::Input,
 )
     requires { 0 < debt.old.owed }
-    ensures states { (K.Keeper.kept keeper.new).states ≡ advanced G.Game.next (K.Keeper.kept keeper.old).states first second }
+    ensures states { (K.kept keeper.new).states ≡ advanced G.next (K.kept keeper.old).states first second }
     ensures debt { debt.new.owed ≡ debt.old.owed - 1 }
 {
     keeper.advance(first, second);

@@ -1,4 +1,3 @@
 pub mod Around
-pub mod Kept
 pub mod Redone
 pub mod Undone

@@ -1,8 +1,7 @@
 -- Going back and replaying, where enough states are listed and where not.
-use Rattle.std.proofs.Common.{◌≡◌, ℕ, zero, suc, ◌-◌, ◌<◌, ◌≤◌, ltb, List, length, drop, Ok, Err, Result, sym, ap, ◌∙◌, arith}
-use Rattle.std.proofs.lemmas.Bool.{cond-true, cond-false, lt-ltb, le-ltb}
+use Rattle.std.proofs.Common.{◌≡◌, ℕ, zero, suc, ◌-◌, ◌<◌, ◌≤◌, ltb, List, length, drop, Ok, Result, sym, ap, ◌∙◌, arith}
+use Rattle.std.proofs.lemmas.Bool.{cond-true, lt-ltb}
 use Rattle.interface.specs.declared.answers.Refusal.{Refusal}
-use Rattle.interface.specs.declared.answers.Refusal.TheVariants.{OutOfReach}
 use Rattle.interface.specs.Games.{State}
 use Rattle.interface.specs.Keepers.{advanced, replayed}
 use Rattle.interface.proofs.Replays.{replayed_reach, replayed_again}
@@ -11,15 +10,9 @@ use Rattle.keepers.specs.Replaying.{redo_answer, redone, repeated, SameAgain}
 pub redo_reaches : (n : ℕ) (ss : List State) → n < length ss → redo_answer n ss ≡ Ok tt
 redo_reaches n ss h = cond-true (ltb n (length ss)) _ _ (lt-ltb n (length ss) h)
 
-pub redo_refuses : (n : ℕ) (ss : List State) → length ss ≤ n → redo_answer n ss ≡ Err OutOfReach
-redo_refuses n ss h = cond-false (ltb n (length ss)) _ _ (le-ltb n (length ss) h)
-
 module _ {I : Type 0} (next : State → I → I → State) (ps : List (I × I)) (ss : List State) where
   pub redone_replays : length ps < length ss → redone next ps ss ≡ replayed next (drop (length ps) ss) ps
   redone_replays h = cond-true (ltb (length ps) (length ss)) _ _ (lt-ltb (length ps) (length ss) h)
-
-  pub redone_keeps : length ss ≤ length ps → redone next ps ss ≡ ss
-  redone_keeps h = cond-false (ltb (length ps) (length ss)) _ _ (le-ltb (length ps) (length ss) h)
 
   -- with the inputs that the frames had, nothing changes
   pub same_again : (r : Result (Unit {0}) Refusal) (after : List State) → r ≡ redo_answer (length ps) ss → after ≡ redone next ps ss → SameAgain next ps ss r after

@@ -19,7 +19,7 @@ impl<I: InputKind> GuessRule<I> for Hold {
 pub struct Still;
 
 impl<I: InputKind> GuessRule<I> for Still {
-    ghost guessed = { λ last gap. I.InputKind.idle };
+    ghost guessed = { λ last gap. I.idle };
 
     fn guess(last: I, gap: u32) -> I {
         I::idle()

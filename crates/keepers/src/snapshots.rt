@@ -1,5 +1,5 @@
 // The keeper that keeps states: the newest, and the eight before it.
-ghost use Rattle.keepers.specs.Keeping.{kept_by_snapshots};
+ghost use Rattle.std.specs.Prelude.{◌≤◌, length};
 
 use crate::ring::Ring;
 use interface::answers::Refusal;
@@ -12,10 +12,13 @@ use interface::keeper::Keeper;
 pub struct Snapshots<G> {
     game: G,
     before: Ring<G>,
+    ghost few: { length before ≤ 8 },
 }
 
 impl<G: Game> Keeper<G> for Snapshots<G> {
-    ghost kept = { λ k. kept_by_snapshots G.Game.words k.game k.before };
+    ghost use Rattle.keepers.specs.Keeping.{kept_by_snapshots};
+
+    ghost kept = { λ k. kept_by_snapshots G.words k.game k.before k.few };
 
     fn open(seed: u32) -> Self {
         let game = G::open(seed);
@@ -31,17 +34,14 @@ impl<G: Game> Keeper<G> for Snapshots<G> {
     }
 
     fn go_back(&mut self, frames: u32) -> Result<Debt, Refusal> {
-        if frames == 0 {
-            return Ok(Debt::of(0));
+        if frames > 0 {
+            self.game = self.before.get(frames - 1).ok_or(Refusal::OutOfReach)?;
+            self.before.drop_newest(frames);
         }
-        let Some(game) = self.before.get(frames - 1) else {
-            return Err(Refusal::OutOfReach);
-        };
-        self.game = game;
-        self.before.drop_newest(frames);
         Ok(Debt::of(frames))
     }
 
+    // This and the digest stand in each keeper: a default in the trait would have to reach the game, by a method as long.
     fn word(&self, k: u32) -> Option<u32> {
         self.game.word(k)
     }

@@ -1,5 +1,5 @@
 // The keeper that keeps trails: the newest state, and the trails of the eight steps before it.
-ghost use Rattle.keepers.specs.Keeping.{kept_by_trails};
+ghost use Rattle.std.specs.Prelude.{◌≤◌, length};
 
 use crate::ring::Ring;
 use interface::answers::Refusal;
@@ -12,10 +12,13 @@ use interface::keeper::Keeper;
 pub struct Trails<G> {
     game: G,
     trails: Ring<Trail>,
+    ghost few: { length trails ≤ 8 },
 }
 
 impl<G: Game> Keeper<G> for Trails<G> {
-    ghost kept = { λ k. kept_by_trails G.Game.undone (G.Game.words k.game) k.trails };
+    ghost use Rattle.keepers.specs.Keeping.{kept_by_trails};
+
+    ghost kept = { λ k. kept_by_trails G.undone (G.words k.game) k.trails k.few };
 
     fn open(seed: u32) -> Self {
         Trails {
@@ -34,19 +37,17 @@ impl<G: Game> Keeper<G> for Trails<G> {
             return Ok(Debt::of(0));
         }
         let mut game = self.game;
+        // By number, since going back is refused where the trails run out: an iterator would only end.
         for k in 0..frames {
-            let Some(trail) = self.trails.get(k) else {
-                return Err(Refusal::OutOfReach);
-            };
-            if game.undo(&trail).is_err() {
-                return Err(Refusal::OutOfReach);
-            }
+            let trail = self.trails.get(k).ok_or(Refusal::OutOfReach)?;
+            game.undo(&trail).map_err(|_| Refusal::OutOfReach)?;
         }
         self.game = game;
         self.trails.drop_newest(frames);
         Ok(Debt::of(frames))
     }
 
+    // This and the digest stand in each keeper: a default in the trait would have to reach the game, by a method as long.
     fn word(&self, k: u32) -> Option<u32> {
         self.game.word(k)
     }

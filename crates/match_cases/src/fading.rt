@@ -8,7 +8,7 @@ use interface::input::InputKind;
 pub struct Fading;
 
 impl<I: InputKind> GuessRule<I> for Fading {
-    ghost guessed = { λ last gap. (if nat_lt gap 4 then last else I.InputKind.idle) };
+    ghost guessed = { λ last gap. (if nat_lt gap 4 then last else I.idle) };
 
     fn guess(last: I, gap: u32) -> I {
         if gap < 4 { last } else { I::idle() }

@@ -1,9 +1,8 @@
 // Fixed turns: the order of the answers, what a refusal leaves, and a short match by hand.
-use crate::calling::{Lent, SLOTS, call, open};
+use crate::calling::{BothLent, Lent, SLOTS, UNTOLD, call, open};
 use duel::input::DuelInput;
 use duel::state::Duel;
 use interface::answers::Refusal;
-use interface::input::InputKind;
 use interface::keeper::Keeper;
 use keepers::guesses::{Hold, Still};
 use keepers::snapshots::Snapshots;
@@ -12,7 +11,6 @@ use match_engine::log::Record;
 use match_engine::state::Match;
 use play::playing::play;
 use play::turns::{Call, Told, Turn};
-use seat::state::Slots;
 use std::process::Abort;
 use std::test::Fail;
 
@@ -20,13 +18,6 @@ type DuelMatch = Match<Duel, Snapshots<Duel>, Trails<Duel>, Hold, Still>;
 
 // Code, frames replayed, P and R.
 type Row = (u32, u32, u32, u32);
-
-const UNTOLD: Told = Told {
-    code: 99,
-    frames: 99,
-    played: 99,
-    known: 99,
-};
 
 // A turn that is lent its slots, and 2 records.
 fn turn(seat: u32, call: Call) -> Turn {
@@ -55,53 +46,47 @@ fn take(seat: u32, k: u32) -> Turn {
 // A turn that is lent other numbers of slots and records.
 fn lent(turn: Turn, own: usize, other: usize, digests: usize, records: usize) -> Turn {
     Turn {
-        seat: turn.seat,
-        call: turn.call,
         own,
         other,
         digests,
         records,
+        ..turn
     }
 }
 
 // Plays turns of Duel with 40 slots of each kind and 2 records, and compares what is told.
 fn play_rows(rt: &impl Abort, turns: &[Turn], rows: &[Row]) -> Result<DuelMatch, Fail> {
-    let mut first = Lent::<DuelInput>::new();
-    let mut second = Lent::<DuelInput>::new();
+    let mut slots = BothLent::new();
     let mut log = [Record::empty(); 2];
     let mut told = [UNTOLD; 40];
-    let game = match play::<Duel, Snapshots<Duel>, Trails<Duel>, Hold, Still>(
+    let game = play::<Duel, Snapshots<Duel>, Trails<Duel>, Hold, Still>(
         7,
         0,
-        Slots {
-            own: &mut first.own,
-            other: &mut first.other,
-            digests: &mut first.digests,
-        },
-        Slots {
-            own: &mut second.own,
-            other: &mut second.other,
-            digests: &mut second.digests,
-        },
+        slots.first.front(SLOTS, SLOTS, SLOTS),
+        slots.second.front(SLOTS, SLOTS, SLOTS),
         &mut log,
         turns,
         &mut told,
-    ) {
-        Ok(game) => game,
-        Err(why) => return Err(Fail::new(why.number())),
-    };
-    same_rows(rt, &told, rows)?;
+    )
+    .map_err(|why| Fail::new(why.number()))?;
+    same_rows(rt, &told, rows);
     Ok(game)
 }
 
 // What is told, row by row, and nothing after.
-fn same_rows(rt: &impl Abort, told: &[Told], rows: &[Row]) -> Result<(), Fail> {
+fn same_rows(rt: &impl Abort, told: &[Told], rows: &[Row]) {
     for (i, told) in told.iter().enumerate() {
-        let found = (told.code, told.frames, told.played, told.known);
-        let row = rows.get(i).copied().unwrap_or((99, 99, 99, 99));
-        assert_eq!(rt; found, row, "turn {i}");
+        let row = rows.get(i).map_or(
+            UNTOLD,
+            |&(code, frames, played, known)| Told {
+                code,
+                frames,
+                played,
+                known,
+            },
+        );
+        assert_eq!(rt; *told, row, "turn {i}");
     }
-    Ok(())
 }
 
 #[test]
@@ -266,30 +251,6 @@ fn eight_frames_ahead(rt: HostRuntime) -> Result<(), Fail> {
     Ok(())
 }
 
-fn same_codes(left: &[DuelInput], right: &[DuelInput]) -> bool {
-    for (a, b) in left.iter().zip(right.iter()) {
-        if a.code() != b.code() {
-            return false;
-        }
-    }
-    left.len() == right.len()
-}
-
-fn same_lent(left: &Lent<DuelInput>, right: &Lent<DuelInput>) -> bool {
-    same_codes(&left.own, &right.own)
-        && same_codes(&left.other, &right.other)
-        && left.digests == right.digests
-}
-
-fn same_records(left: &[Record], right: &[Record]) -> bool {
-    for (a, b) in left.iter().zip(right.iter()) {
-        if a.sender != b.sender || a.len != b.len || a.bytes != b.bytes {
-            return false;
-        }
-    }
-    left.len() == right.len()
-}
-
 // P, R and A of both seats, and how many datagrams were sent.
 fn counts(game: &DuelMatch) -> ([u32; 6], usize) {
     let first = game.first();
@@ -307,40 +268,48 @@ fn counts(game: &DuelMatch) -> ([u32; 6], usize) {
     )
 }
 
+fn digests(game: &DuelMatch) -> (u32, u32) {
+    (game.first().digest(), game.second().digest())
+}
+
 // Makes a turn that is refused: all is as it was.
 fn refused(
     rt: &impl Abort,
     game: &mut DuelMatch,
     turn: Turn,
     code: u32,
-    slots: &mut Lent<DuelInput>,
+    slots: &mut BothLent<DuelInput>,
     log: &mut [Record; 2],
-) -> Result<(), Fail> {
-    let before = counts(game);
-    let digests = (game.first().digest(), game.second().digest());
-    let kept = Lent {
-        own: slots.own,
-        other: slots.other,
-        digests: slots.digests,
-    };
+) {
+    let before = (counts(game), digests(game));
+    let kept = *slots;
     let records = *log;
-    assert_eq!(rt; call(game, turn, slots, log), (code, 0));
-    assert_eq!(rt; counts(game), before);
-    assert_eq!(rt; (game.first().digest(), game.second().digest()), digests);
-    assert!(rt; same_lent(slots, &kept), "slots, code {code}");
-    assert!(rt; same_records(log, &records), "log, code {code}");
-    Ok(())
+    let Turn { seat, .. } = turn;
+    assert_eq!(rt; call(game, turn, slots, log), (code, 0), "seat {seat}");
+    assert_eq!(rt;
+        (counts(game), digests(game)),
+        before,
+        "seat {seat}, code {code}"
+    );
+    assert!(rt;
+        slots.first == kept.first,
+        "slots of seat 0, seat {seat}, code {code}"
+    );
+    assert!(rt;
+        slots.second == kept.second,
+        "slots of seat 1, seat {seat}, code {code}"
+    );
+    assert!(rt; *log == records, "log, seat {seat}, code {code}");
 }
 
 // At P 8 of seat 0 and two datagrams sent by it, in a log of two.
 fn refused_turns(
     rt: &impl Abort,
     game: &mut DuelMatch,
-    first: &mut Lent<DuelInput>,
-    second: &mut Lent<DuelInput>,
+    slots: &mut BothLent<DuelInput>,
     log: &mut [Record; 2],
-) -> Result<(), Fail> {
-    let at_0 = [
+) {
+    let refusals = [
         (press(2, 1), 21),
         (lent(send(7), 0, 0, 0, 0), 21),
         (lent(press(0, 1), 31, 32, 32, 2), 20),
@@ -351,11 +320,6 @@ fn refused_turns(
         (send(0), 18),
         (take(0, 1), 17),
         (take(0, 2), 17),
-    ];
-    for (turn, code) in at_0 {
-        refused(rt, game, turn, code, first, log)?;
-    }
-    let at_1 = [
         (press(1, 999), 5),
         (send(1), 18),
         (take(1, 2), 17),
@@ -363,45 +327,27 @@ fn refused_turns(
         (lent(take(1, 1), 32, 32, 32, 1), 17),
         (lent(take(1, 1), 33, 32, 32, 2), 20),
     ];
-    for (turn, code) in at_1 {
-        refused(rt, game, turn, code, second, log)?;
-    }
-    Ok(())
-}
-
-// Presses codes at seat 0.
-fn press_all(rt: &impl Abort, game: &mut DuelMatch, codes: &[u16], slots: &mut Lent<DuelInput>) {
-    for code in codes {
-        assert_eq!(rt; call(game, press(0, *code), slots, &mut []), (0, 0));
+    for (turn, code) in refusals {
+        refused(rt, game, turn, code, slots, log);
     }
 }
 
 #[test]
 fn refusals_leave_all(rt: HostRuntime) -> Result<(), Fail> {
-    let mut first = Lent::<DuelInput>::new();
-    let mut second = Lent::<DuelInput>::new();
+    let mut slots = BothLent::new();
     let mut log = [Record::empty(); 2];
-    let mut game = open::<Duel, Snapshots<Duel>, Trails<Duel>, Hold, Still>(
-        3,
-        &mut first,
-        &mut second,
-    )?;
-    assert_eq!(rt; call(&mut game, send(0), &mut first, &mut log), (0, 0));
-    press_all(&rt, &mut game, &[1, 2, 3, 4, 9, 10, 11, 12], &mut first);
-    assert_eq!(rt; call(&mut game, send(0), &mut first, &mut log), (0, 0));
+    let mut game = open::<Duel, Snapshots<Duel>, Trails<Duel>, Hold, Still>(3, &mut slots)?;
+    assert_eq!(rt; call(&mut game, send(0), &mut slots, &mut log), (0, 0));
+    for code in [1, 2, 3, 4, 9, 10, 11, 12] {
+        let answer = call(&mut game, press(0, code), &mut slots, &mut []);
+        assert_eq!(rt; answer, (0, 0), "code {code}");
+    }
+    assert_eq!(rt; call(&mut game, send(0), &mut slots, &mut log), (0, 0));
     assert_eq!(rt; counts(&game), ([8, 0, 0, 0, 0, 0], 2));
-    refused_turns(&rt, &mut game, &mut first, &mut second, &mut log)?;
-    assert_eq!(rt; call(&mut game, take(1, 1), &mut second, &mut log), (0, 0));
+    refused_turns(&rt, &mut game, &mut slots, &mut log);
+    assert_eq!(rt; call(&mut game, take(1, 1), &mut slots, &mut log), (0, 0));
     assert_eq!(rt; counts(&game), ([8, 0, 0, 0, 8, 0], 2));
     Ok(())
-}
-
-// The number of a refusal, or 0.
-fn answer(played: Result<DuelMatch, Refusal>) -> u32 {
-    match played {
-        Ok(_) => 0,
-        Err(why) => why.number(),
-    }
 }
 
 const FIRE: DuelInput = DuelInput {
@@ -425,71 +371,68 @@ fn marked_record() -> Record {
     record
 }
 
-// Presses and sends at seat 0, with so many slots of each kind.
+// Presses and sends at seat 0, with so many slots of each kind. The number of the refusal, or 0.
 fn press_and_send(
-    slots: [usize; 6],
-    first: &mut Lent<DuelInput>,
-    second: &mut Lent<DuelInput>,
+    numbers: [usize; 6],
+    slots: &mut BothLent<DuelInput>,
     log: &mut [Record],
     told: &mut [Told],
-    room: usize,
 ) -> u32 {
-    let room = room.min(told.len());
-    let own_0 = &mut first.own[..];
-    let other_0 = &mut first.other[..];
-    let digests_0 = &mut first.digests[..];
-    let own_1 = &mut second.own[..];
-    let other_1 = &mut second.other[..];
-    let digests_1 = &mut second.digests[..];
-    answer(play::<Duel, Snapshots<Duel>, Trails<Duel>, Hold, Still>(
+    let [own_0, other_0, digests_0, own_1, other_1, digests_1] = numbers;
+    play::<Duel, Snapshots<Duel>, Trails<Duel>, Hold, Still>(
         7,
         0,
-        Slots {
-            own: &mut own_0[0..slots[0].min(SLOTS)],
-            other: &mut other_0[0..slots[1].min(SLOTS)],
-            digests: &mut digests_0[0..slots[2].min(SLOTS)],
-        },
-        Slots {
-            own: &mut own_1[0..slots[3].min(SLOTS)],
-            other: &mut other_1[0..slots[4].min(SLOTS)],
-            digests: &mut digests_1[0..slots[5].min(SLOTS)],
-        },
+        slots.first.front(own_0, other_0, digests_0),
+        slots.second.front(own_1, other_1, digests_1),
         log,
         &[press(0, 1), send(0)],
-        &mut told[0..room],
-    ))
+        told,
+    )
+    .err()
+    .map_or(0, Refusal::number)
 }
 
 // Two turns are played with room to tell of so many; refused, they leave all as it was.
-fn plays_with(rt: &impl Abort, slots: [usize; 6], room: usize, code: u32) -> Result<(), Fail> {
-    let mut first = marked_slots();
-    let mut second = marked_slots();
+fn plays_with(rt: &impl Abort, numbers: [usize; 6], room: usize, code: u32) {
+    let mut slots = BothLent {
+        first: marked_slots(),
+        second: marked_slots(),
+    };
     let mut log = [marked_record(); 2];
     let mut told = [UNTOLD; 4];
-    let found = press_and_send(slots, &mut first, &mut second, &mut log, &mut told, room);
-    assert_eq!(rt; found, code, "{slots:?}");
+    let room = room.min(told.len());
+    let found = press_and_send(numbers, &mut slots, &mut log, &mut told[..room]);
+    assert_eq!(rt; found, code, "{numbers:?}");
     if code == 0 {
-        assert_eq!(rt; log[0].len, 23);
-        assert!(rt; !same_lent(&first, &marked_slots()));
-        return same_rows(rt, &told, &[(0, 0, 1, 0), (0, 0, 1, 0)]);
+        assert_eq!(rt; log[0].len, 23, "{numbers:?}");
+        assert!(rt; slots.first != marked_slots(), "{numbers:?}");
+        same_rows(rt, &told, &[(0, 0, 1, 0), (0, 0, 1, 0)]);
+        return;
     }
-    assert!(rt; same_lent(&first, &marked_slots()), "slots of seat 0");
-    assert!(rt; same_lent(&second, &marked_slots()), "slots of seat 1");
-    assert!(rt; same_records(&log, &[marked_record(); 2]), "log");
-    same_rows(rt, &told, &[])
+    assert!(rt;
+        slots.first == marked_slots(),
+        "slots of seat 0, {numbers:?}"
+    );
+    assert!(rt;
+        slots.second == marked_slots(),
+        "slots of seat 1, {numbers:?}"
+    );
+    assert!(rt; log == [marked_record(); 2], "log, {numbers:?}");
+    same_rows(rt, &told, &[]);
 }
 
 #[test]
-fn play_refused(rt: HostRuntime) -> Result<(), Fail> {
+fn play_refused(rt: HostRuntime) {
+    // Each number stands in each of the six places in turn.
     for i in 0..6usize {
         for (number, code) in [(0, 20), (31, 20), (32, 0), (33, 0), (40, 0)] {
-            let mut slots = [32; 6];
-            slots[i] = number;
-            plays_with(&rt, slots, 2, code)?;
+            let mut numbers = [32; 6];
+            numbers[i] = number;
+            plays_with(&rt, numbers, 2, code);
         }
     }
-    plays_with(&rt, [32; 6], 0, 14)?;
-    plays_with(&rt, [32; 6], 1, 14)?;
-    plays_with(&rt, [32; 6], 3, 0)?;
-    plays_with(&rt, [32, 32, 32, 32, 32, 31], 1, 20)
+    plays_with(&rt, [32; 6], 0, 14);
+    plays_with(&rt, [32; 6], 1, 14);
+    plays_with(&rt, [32; 6], 3, 0);
+    plays_with(&rt, [32, 32, 32, 32, 32, 31], 1, 20);
 }

@@ -1,6 +1,7 @@
 // Turns that look random, over a line that loses, repeats, delays and reorders.
 use crate::plain_match::PlainMatch;
-use interface::input::InputKind;
+use interface::game::Game;
+use interface::guess::GuessRule;
 use play::turns::{Call, Turn};
 
 // Numbers that look random.
@@ -23,6 +24,37 @@ impl Dice {
     // Whether one of so many cases comes.
     fn one_in(&mut self, cases: u32) -> bool {
         self.roll(cases) == 0
+    }
+
+    // A phase, with a code below this number that is pressed often.
+    fn phase(&mut self, codes: u32) -> Phase {
+        let mut phase = PHASES[self.roll(6) as usize % 6];
+        phase.held = (self.roll(codes) & 0xff) as u16;
+        phase
+    }
+
+    // Slots: nearly always 32.
+    fn slots(&mut self) -> usize {
+        if !self.one_in(60) {
+            return 32;
+        }
+        match self.roll(3) {
+            0 => 0,
+            1 => 31,
+            _ => 33,
+        }
+    }
+
+    // Records: nearly always all. Else about as many as the call needs.
+    fn records(&mut self, call: Call, sent: u32, all: usize) -> usize {
+        if !self.one_in(20) {
+            return all;
+        }
+        let needed = match call {
+            Call::Take(k) => k,
+            _ => sent,
+        };
+        needed.saturating_add(self.roll(3)).saturating_sub(1) as usize
     }
 }
 
@@ -86,95 +118,6 @@ const PHASES: [Phase; 6] = [
     },
 ];
 
-fn next_phase(dice: &mut Dice, codes: u32) -> Phase {
-    let mut phase = PHASES[dice.roll(6) as usize % 6];
-    phase.held = (dice.roll(codes) & 0xff) as u16;
-    phase
-}
-
-// A code: the phase's, any of the first so many, or one that is hardly read.
-fn some_code(dice: &mut Dice, phase: &Phase, codes: u32) -> u16 {
-    if dice.one_in(40) {
-        return 65_535;
-    }
-    if dice.one_in(2) {
-        return phase.held;
-    }
-    (dice.roll(codes) & 0xff) as u16
-}
-
-// A datagram's number: one of the newest, or seldom one that was not sent.
-fn some_datagram(dice: &mut Dice, phase: &Phase, sent: u32) -> u32 {
-    if dice.one_in(30) {
-        return sent.saturating_add(dice.roll(3));
-    }
-    if dice.one_in(200) {
-        return u32::MAX;
-    }
-    sent.saturating_sub(1).saturating_sub(dice.roll(phase.late))
-}
-
-fn some_call(dice: &mut Dice, phase: &Phase, sent: u32, codes: u32) -> Call {
-    let kind = dice.roll(100);
-    if kind < phase.presses {
-        return Call::Press(some_code(dice, phase, codes));
-    }
-    if kind < phase.sends {
-        return Call::Send;
-    }
-    Call::Take(some_datagram(dice, phase, sent))
-}
-
-// Slots: nearly always 32.
-fn some_slots(dice: &mut Dice) -> usize {
-    if !dice.one_in(60) {
-        return 32;
-    }
-    match dice.roll(3) {
-        0 => 0,
-        1 => 31,
-        _ => 33,
-    }
-}
-
-// Records: nearly always all. Else about as many as the call needs.
-fn some_records(dice: &mut Dice, call: Call, sent: u32, all: usize) -> usize {
-    if !dice.one_in(20) {
-        return all;
-    }
-    let needed = match call {
-        Call::Take(k) => k,
-        _ => sent,
-    };
-    needed.saturating_add(dice.roll(3)).saturating_sub(1) as usize
-}
-
-// The next turn of a match, with codes below `codes` for the most part.
-fn next_turn<I: InputKind>(
-    dice: &mut Dice,
-    phase: &Phase,
-    plain: &PlainMatch<I>,
-    codes: u32,
-) -> Turn {
-    let seat = if dice.one_in(50) {
-        dice.roll(4)
-    } else if dice.roll(100) < phase.second {
-        1
-    } else {
-        0
-    };
-    let sent = plain.sent();
-    let call = some_call(dice, phase, sent, codes);
-    Turn {
-        seat,
-        call,
-        own: some_slots(dice),
-        other: some_slots(dice),
-        digests: some_slots(dice),
-        records: some_records(dice, call, sent, plain.records),
-    }
-}
-
 // How many turns a phase has.
 pub const PHASE: u32 = 32;
 
@@ -193,20 +136,74 @@ impl Source {
     pub fn new(seed: u32, codes: u32) -> Self {
         let mut dice = Dice::new(seed);
         Source {
-            phase: next_phase(&mut dice, codes),
+            phase: dice.phase(codes),
             dice,
             left: PHASE,
             codes,
         }
     }
 
+    // A code: the phase's, any of the first so many, or one that is hardly read.
+    fn code(&mut self) -> u16 {
+        if self.dice.one_in(40) {
+            return 65_535;
+        }
+        if self.dice.one_in(2) {
+            return self.phase.held;
+        }
+        (self.dice.roll(self.codes) & 0xff) as u16
+    }
+
+    // A datagram's number: one of the newest, or seldom one that was not sent.
+    fn datagram(&mut self, sent: u32) -> u32 {
+        if self.dice.one_in(30) {
+            return sent.saturating_add(self.dice.roll(3));
+        }
+        if self.dice.one_in(200) {
+            return u32::MAX;
+        }
+        sent.saturating_sub(1)
+            .saturating_sub(self.dice.roll(self.phase.late))
+    }
+
+    fn call(&mut self, sent: u32) -> Call {
+        let kind = self.dice.roll(100);
+        if kind < self.phase.presses {
+            return Call::Press(self.code());
+        }
+        if kind < self.phase.sends {
+            return Call::Send;
+        }
+        Call::Take(self.datagram(sent))
+    }
+
+    fn seat(&mut self) -> u32 {
+        if self.dice.one_in(50) {
+            return self.dice.roll(4);
+        }
+        u32::from(self.dice.roll(100) < self.phase.second)
+    }
+
     // The next turn, after those that the plain match has made.
-    pub fn next<I: InputKind>(&mut self, plain: &PlainMatch<I>) -> Turn {
+    pub fn next<G: Game, H0: GuessRule<G::Input>, H1: GuessRule<G::Input>>(
+        &mut self,
+        plain: &PlainMatch<G, H0, H1>,
+    ) -> Turn {
         if self.left == 0 {
-            self.phase = next_phase(&mut self.dice, self.codes);
+            self.phase = self.dice.phase(self.codes);
             self.left = PHASE;
         }
         self.left = self.left.saturating_sub(1);
-        next_turn(&mut self.dice, &self.phase, plain, self.codes)
+        let sent = plain.sent();
+        let seat = self.seat();
+        let call = self.call(sent);
+        Turn {
+            seat,
+            call,
+            own: self.dice.slots(),
+            other: self.dice.slots(),
+            digests: self.dice.slots(),
+            records: self.dice.records(call, sent, plain.records),
+        }
     }
 }

@@ -1,21 +1,23 @@
 -- The checks of the log, and what a send does.
-use Rattle.std.proofs.Common.{◌≡◌, ℕ, zero, suc, ◌+◌, ◌<◌, ◌≤◌, Bool, true, false, ◌&&◌, leb, List, [], ◌∷◌, length, get_or, set, Some, None, sym, refl, ap, ◌∙◌, arith}
+use Rattle.std.proofs.Common.{◌≡◌, ℕ, zero, suc, ◌+◌, ◌<◌, ◌≤◌, Bool, true, false, ◌&&◌, leb, List, [], ◌∷◌, length, get_or, set, Some, None, Ok, Err, Option, Result, sym, refl, ap, ◌∙◌, arith}
 use mathlib.Core.Bool.{beq}
 use Rattle.std.proofs.lemmas.Bool.{le-leb, lt-leb, cond-true, cond-false}
 use Rattle.std.proofs.lemmas.List.{length-map, get_or-map, map-set, set-get_or}
 use Rattle.interface.specs.Keepers.{Kept}
-use Rattle.interface.specs.Answers.{accepted}
+use Rattle.interface.specs.Answers.{accepted, number_of}
+use Rattle.interface.specs.declared.answers.Refusal.{Refusal}
 use Rattle.interface.specs.declared.answers.Refusal.TheVariants.{NoSuchDatagram, LogFull}
 use Rattle.frames.specs.Queue.{whole}
 use Rattle.plain.specs.Match.{other, unless_refused}
 use Rattle.rollback.specs.Inputs.{Setting}
 use Rattle.seat.specs.Views.{View}
 use Rattle.seat.specs.Calls as calls
+use Rattle.seat.proofs.Checks.{or_ok, or_err}
 use Rattle.refine.specs.Setup.{Setup, setting_of, Lawful}
 use Rattle.refine.specs.Memory.{Entry, SlotLists, Memory, seat, entry, datagram, no_entry, record_bytes}
 use Rattle.refine.specs.Outcomes.{Sending, Taking, outcome, numbered, log_check}
 use Rattle.refine.specs.Standing.{HasRoom}
-use Rattle.refine.proofs.Results.{send_result, send_result_refused, send_accepted, send_refused}
+use Rattle.refine.proofs.Results.{send_result, send_result_refused}
 use Rattle.match_engine.specs.declared.log.Record.{Record}
 use Rattle.match_engine.specs.declared.state.Match.{Match}
 use Rattle.match_engine.specs.Log.{entry_of, entries, sent_entry}
@@ -70,7 +72,7 @@ module _ {G K0 K1 H0 H1 I : Type 0} (kept_0 : K0 → Kept) (kept_1 : K1 → Kept
   pub datagram_is : (k : ℕ) (r : Record) → r ≡ get_or log k r → k < length log → datagram (entry_of r) ≡ datagram (entry b k)
   datagram_is k r is low = ap (λ z. datagram (entry_of z)) is ∙ ap datagram (sym (entry_is k r low))
 
-  module _ (a : Setup I) (lawful : Lawful a) (low : n ≤ 1) (right : (whole lent.own && whole lent.others && whole lent.digests) ≡ true) (inside : m.sent < length log) (lent' : SlotLists I) (same : lent' ≡ lent) (d x : Record) (code : ℕ) (told : code ≡ (calls.send_answer (setting_of a s) (seat_view kept_0 kept_1 m s lent) (get_or log m.sent d).bytes).0) (wrote : entry_of x ≡ sent_entry (setting_of a s) (seat_view kept_0 kept_1 m s lent) s (entry_of (get_or log m.sent d))) where
+  module _ (a : Setup I) (lawful : Lawful a) (low : n ≤ 1) (right : (whole lent.own && whole lent.others && whole lent.digests) ≡ true) (inside : m.sent < length log) (lent' : SlotLists I) (same : lent' ≡ lent) (d x : Record) (answer : Result (Unit {0}) Refusal) (told : answer ≡ calls.or_refused (calls.send_refusal (setting_of a s) (seat_view kept_0 kept_1 m s lent) (get_or log m.sent d).bytes) tt) (wrote : entry_of x ≡ sent_entry (setting_of a s) (seat_view kept_0 kept_1 m s lent) s (entry_of (get_or log m.sent d))) where
     abbrev g : Setting I
     g = setting_of a s
 
@@ -83,8 +85,11 @@ module _ {G K0 K1 H0 H1 I : Type 0} (kept_0 : K0 → Kept) (kept_1 : K1 → Kept
     e_is : e ≡ entry_of (get_or log m.sent d)
     e_is = entry_is m.sent d inside
 
-    told' : code ≡ (calls.send_answer g (seat b s) e.bytes).0
-    told' = told ∙ ap (λ w. (calls.send_answer g w (get_or log m.sent d).bytes).0) (sym (acting kept_0 kept_1 m n lent rest (entries log))) ∙ ap (λ (z : Entry). (calls.send_answer g (seat b s) z.bytes).0) (sym e_is)
+    abbrev refusal : Option Refusal
+    refusal = calls.send_refusal g (seat b s) e.bytes
+
+    told' : answer ≡ calls.or_refused refusal tt
+    told' = told ∙ ap (λ w. calls.or_refused (calls.send_refusal g w (get_or log m.sent d).bytes) tt) (sym (acting kept_0 kept_1 m n lent rest (entries log))) ∙ ap (λ (z : Entry). calls.or_refused (calls.send_refusal g (seat b s) z.bytes) tt) (sym e_is)
 
     wrote' : entry_of x ≡ sent_entry g (seat b s) s e
     wrote' = wrote ∙ ap (λ w. sent_entry g w s (entry_of (get_or log m.sent d))) (sym (acting kept_0 kept_1 m n lent rest (entries log))) ∙ ap (λ z. sent_entry g (seat b s) s z) (sym e_is)
@@ -109,18 +114,18 @@ module _ {G K0 K1 H0 H1 I : Type 0} (kept_0 : K0 → Kept) (kept_1 : K1 → Kept
         at true = refl
         at false = refl
 
-    pub send_does : code ≡ accepted → Does a b n Sending (outcome (left (m.sent + 1)) accepted 0)
-    send_does taken =
-        let told'' = sym told' ∙ taken in
-        does a lawful b n Sending _ roomy
-        (send_result a b n (not_above n low) (left (m.sent + 1)) (same_waiting (m.sent + 1)) (lent_whole kept_0 kept_1 m n lent rest (entries log) true right) (same_acting (m.sent + 1)) (log_free inside) told''
-        (log' ∙ ap (set (entries log) m.sent) (wrote' ∙ ap (λ o. unless_refused o e (record { sender = s; size = (calls.send_answer g (seat b s) e.bytes).1; bytes = calls.send_leaves g (seat b s) e.bytes })) (send_accepted g (seat b s) e.bytes told'')))
-        refl)
+    entry' : (o : Option Refusal) → refusal ≡ o → entries (set log m.sent x) ≡ set (entries log) m.sent (unless_refused o e (record { sender = s; size = (calls.send_answer g (seat b s) e.bytes).1; bytes = calls.send_leaves g (seat b s) e.bytes }))
+    entry' o is = log' ∙ ap (set (entries log) m.sent) (wrote' ∙ ap (λ p. unless_refused p e (record { sender = s; size = (calls.send_answer g (seat b s) e.bytes).1; bytes = calls.send_leaves g (seat b s) e.bytes })) is)
 
-    pub send_refuses : (code ≡ accepted → ⊥) → Does a b n Sending (outcome (left m.sent) code 0)
-    send_refuses refuses =
-        let refused = send_refused g (seat b s) e.bytes (λ taken. refuses (told' ∙ taken)) in
+    pub send_does : (n' : ℕ) → answer ≡ Ok tt → n' ≡ accepted → Does a b n Sending (outcome (left (m.sent + 1)) n' 0)
+    send_does n' ok number =
+        let none = (or_ok refusal tt tt (sym ok ∙ told')).0 in
         does a lawful b n Sending _ roomy
-        (send_result_refused a b n (not_above n low) (left m.sent) (same_waiting m.sent) (lent_whole kept_0 kept_1 m n lent rest (entries log) true right) (same_acting m.sent) (log_free inside) code told' refuses
-        (log' ∙ ap (set (entries log) m.sent) (wrote' ∙ ap (λ o. unless_refused o e (record { sender = s; size = (calls.send_answer g (seat b s) e.bytes).1; bytes = calls.send_leaves g (seat b s) e.bytes })) refused.1) ∙ set-get_or (entries log) m.sent no_entry)
-        refl)
+        (ap (λ k. outcome (left (m.sent + 1)) k 0) number
+        ∙ send_result a b n (not_above n low) (left (m.sent + 1)) (same_waiting (m.sent + 1)) (lent_whole kept_0 kept_1 m n lent rest (entries log) true right) (same_acting (m.sent + 1)) (log_free inside) none (entry' None none) refl)
+
+    pub send_refuses : (why : Refusal) (n' : ℕ) → answer ≡ Err why → n' ≡ number_of why → Does a b n Sending (outcome (left m.sent) n' 0)
+    send_refuses why n' err number =
+        let some = or_err refusal tt why (sym err ∙ told') in
+        does a lawful b n Sending _ roomy
+        (send_result_refused a b n (not_above n low) (left m.sent) (same_waiting m.sent) (lent_whole kept_0 kept_1 m n lent rest (entries log) true right) (same_acting m.sent) (log_free inside) why n' some number (entry' (Some why) some ∙ set-get_or (entries log) m.sent no_entry) refl)

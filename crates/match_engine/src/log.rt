@@ -1,15 +1,12 @@
 // The log of sent datagrams: records that the caller brings.
-ghost use Rattle.std.specs.Prelude.{◌≡◌, false, ◌&&◌, length, take, replicate};
-ghost use Rattle.frames.specs.Queue.{whole};
-
-use interface::limits::QUEUE_SLOTS;
+ghost use Rattle.std.specs.Prelude.{◌≡◌, false, length, take, replicate};
 
 // A record with room for any datagram.
-#[derive(Clone, Copy)]
+#[derive(Clone, Copy, PartialEq, Eq)]
 pub struct Record {
-    // Seat 1, else seat 0.
+    // Seat 1, else seat 0, as in a seat.
     pub sender: bool,
-    // How many of the bytes are the datagram.
+    // How many of the bytes are the datagram: the caller brings the record, so its bytes are no vector.
     pub len: u32,
     pub bytes: [u8; 85],
     ghost room: { length bytes ≡ 85 },
@@ -31,18 +28,7 @@ impl Record {
     pub fn datagram(&self) -> &[u8]
         ensures { result.now ≡ take self.now.len self.now.bytes }
     {
-        let len = self.len as usize;
-        if len <= self.bytes.len() {
-            &self.bytes[..len]
-        } else {
-            &self.bytes
-        }
+        let len = self.bytes.len().min(self.len as usize);
+        &self.bytes[..len]
     }
-}
-
-// Whether each of a seat's three queues is lent its 32 slots.
-pub fn are_slots<I>(own: &[I], other: &[I], digests: &[u32]) -> bool
-    ensures { result ≡ (whole own.now && whole other.now && whole digests.now) }
-{
-    own.len() == QUEUE_SLOTS && other.len() == QUEUE_SLOTS && digests.len() == QUEUE_SLOTS
 }

@@ -1,12 +1,12 @@
 -- What a turn does to plain states.
-use Rattle.std.proofs.Common.{◌≡◌, ℕ, suc, ◌+◌, ◌-◌, ◌<◌, ◌≤◌, Bool, true, false, cond, ltb, List, [], ◌∷◌, ◌++◌, length, get_or, take, Some, None, Option, sym, refl, ap, ◌∙◌, subst, ⊎_elim, arith}
+use Rattle.std.proofs.Common.{◌≡◌, ℕ, suc, ◌+◌, ◌<◌, ◌≤◌, Bool, true, false, ◌∷◌, take, Some, None, Option, sym, refl, ap, ◌∙◌, subst, arith}
 use Rattle.std.proofs.lemmas.List.{get_or_append_left, get_or_push, length_push, take-append-le, take-take}
-use Rattle.std.proofs.lemmas.Bool.{cases_lt, cond-true, cond-false, lt-ltb, le-ltb}
+use Rattle.std.proofs.lemmas.Bool.Decides.{nat_tests}
 use Rattle.interface.specs.declared.answers.Refusal.{Refusal}
 use Rattle.interface.specs.Answers.{accepted}
 use Rattle.interface.specs.Limits.{most_listed}
 use Rattle.plain.specs.Rules.{Rules}
-use Rattle.plain.specs.Match.{Plain, Turn, Lent, Move, Press, Send, Take, other, played, known, acting, turn, unless_refused, pressed, noted, input_of, refusal, moved, answer, answered, after}
+use Rattle.plain.specs.Match.{Plain, Turn, Lent, Move, Press, Send, Take, other, played, known, acting, turn, unless_refused, pressed, noted, input_of, refusal, moved, answer, after}
 use Rattle.plain.specs.States.{true_input, other_input, plain_state, stepped, down_from}
 use Rattle.plain.specs.Laws.{Counts, SameUpTo, PressAdds}
 use Rattle.plain.proofs.Steps.{accepted_only}
@@ -22,69 +22,46 @@ module _ {S I : Type 0} (r : Rules S I) where
       at (Some why) = old
 
   pub refused_stays : (p : Plain I) (t : Turn) → (answer r p t ≡ accepted → ⊥) → after r p t ≡ p
-  refused_stays p t e = at (refusal r p t) e
-    where
-      at : (o : Option Refusal) → (answered o ≡ accepted → ⊥) → unless_refused o p (moved r p (acting t) t.move) ≡ p
-      at None h = absurd (h refl)
-      at (Some why) h = refl
+  refused_stays p t e = grind arith
 
   pub after_accepted : (p : Plain I) (t : Turn) → answer r p t ≡ accepted → after r p t ≡ moved r p (acting t) t.move
-  after_accepted p t e = ap (λ o. unless_refused o p (moved r p (acting t) t.move)) (accepted_only (refusal r p t) e)
-
--- one input more of the other seat, past those that are known, changes nothing
-unheard_same : {I : Type 0} (d : I) (xs ys : List I) (n f : ℕ) (F : List I → I) → n ≤ length xs → cond (ltb f n) (get_or (xs ++ ys) f d) (F (take n (xs ++ ys))) ≡ cond (ltb f n) (get_or xs f d) (F (take n xs))
-unheard_same d xs ys n f F h =
-    ⊎_elim
-    (λ below. cond-true _ _ _ (lt-ltb f n below) ∙ get_or_append_left xs ys d f (omega arith) ∙ sym (cond-true _ _ _ (lt-ltb f n below)))
-    (λ above. cond-false _ _ _ (le-ltb f n above) ∙ ap F (take-append-le n xs ys h) ∙ sym (cond-false _ _ _ (le-ltb f n above)))
-    (cases_lt f n)
+  after_accepted p t e = grind (arith, accepted_only)
 
 module _ {S I : Type 0} (r : Rules S I) where
   -- an input pressed by one seat is no input that the other has
   other_pressed : (p : Plain I) (s : Bool) (x : I) → known p (other s) ≤ played p s → (f : ℕ) → other_input r (pressed p s x) (other s) f ≡ other_input r p (other s) f
-  other_pressed p true x h f = unheard_same r.idle p.seat_1.inputs (x ∷ []) p.seat_0.known_frames f (λ ks. r.predict false ks (f + 1 - p.seat_0.known_frames)) h
-  other_pressed p false x h f = unheard_same r.idle p.seat_0.inputs (x ∷ []) p.seat_1.known_frames f (λ ks. r.predict true ks (f + 1 - p.seat_1.known_frames)) h
+  other_pressed p s x h f = grind (arith, nat_tests, get_or_append_left, take-append-le)
 
   known_at_most : (p : Plain I) (s : Bool) → ((t : Bool) → Counts p t) → known p (other s) ≤ played p s
-  known_at_most p true c = (c false).known_was_played
-  known_at_most p false c = (c true).known_was_played
+  known_at_most p s c = grind (arith, c true, c false)
 
   own_pressed : (p : Plain I) (s : Bool) (x : I) (f : ℕ) → true_input r (pressed p s x) (other s) f ≡ true_input r p (other s) f
-  own_pressed p true x f = refl
-  own_pressed p false x f = refl
+  own_pressed p s x f = grind arith
 
   -- a move of one seat changes no state of the other
   others_keep_moved : (p : Plain I) (s : Bool) (m : Move) → known p (other s) ≤ played p s → (n : ℕ) → plain_state r (moved r p s m) (other s) n ≡ plain_state r p (other s) n
   others_keep_moved p s (Press code) h n = same_states r p (pressed p s (input_of r code)) (other s) n (λ k i. own_pressed p s (input_of r code) k) (λ k i. other_pressed p s (input_of r code) h k)
-  others_keep_moved p true (Send records) h n = refl
-  others_keep_moved p false (Send records) h n = refl
-  others_keep_moved p true (Take k records) h n = refl
-  others_keep_moved p false (Take k records) h n = refl
+  others_keep_moved p s (Send records) h n = grind arith
+  others_keep_moved p s (Take k records) h n = grind arith
 
   pub send_keeps_moved : (p : Plain I) (s t : Bool) (n : ℕ) → plain_state r (noted p s) t n ≡ plain_state r p t n
-  send_keeps_moved p s true n = refl
-  send_keeps_moved p s false n = refl
+  send_keeps_moved p s t n = grind arith
 
   -- a press of a seat changes nothing that it has of the other
   pub press_hears_nothing : (p : Plain I) (s : Bool) (x : I) (f : ℕ) → other_input r (pressed p s x) s f ≡ other_input r p s f
-  press_hears_nothing p true x f = refl
-  press_hears_nothing p false x f = refl
+  press_hears_nothing p s x f = grind arith
 
   pub send_hears_nothing : (p : Plain I) (s t : Bool) (f : ℕ) → other_input r (noted p s) t f ≡ other_input r p t f
-  send_hears_nothing p s true f = refl
-  send_hears_nothing p s false f = refl
+  send_hears_nothing p s t f = grind arith
 
   own_kept : (p : Plain I) (s : Bool) (x : I) (f : ℕ) → f < played p s → true_input r (pressed p s x) s f ≡ true_input r p s f
-  own_kept p true x f h = get_or_append_left _ _ _ f h
-  own_kept p false x f h = get_or_append_left _ _ _ f h
+  own_kept p s x f h = grind (arith, get_or_append_left)
 
   own_new : (p : Plain I) (s : Bool) (x : I) → true_input r (pressed p s x) s (played p s) ≡ x
-  own_new p true x = get_or_push p.seat_1.inputs x r.idle _ refl
-  own_new p false x = get_or_push p.seat_0.inputs x r.idle _ refl
+  own_new p s x = grind (arith, get_or_push)
 
   one_more : (p : Plain I) (s : Bool) (x : I) → played (pressed p s x) s ≡ played p s + 1
-  one_more p true x = length_push _ x
-  one_more p false x = length_push _ x
+  one_more p s x = grind (arith, length_push)
 
   pub press_keeps_moved : (p : Plain I) (s : Bool) (x : I) (n : ℕ) → n ≤ played p s → plain_state r (pressed p s x) s n ≡ plain_state r p s n
   press_keeps_moved p s x n h = same_states r p (pressed p s x) s n (λ k i. own_kept p s x k (omega arith)) (λ k i. press_hears_nothing p s x k)

@@ -11,11 +11,10 @@ use Rattle.plain.proofs.Walks.{known_is_true, truth_stays, listed_is}
 module _ {I : Type 0} where
   -- both seats have played what one has confirmed
   pub both_played : (p : Plain I) → ((t : Bool) → Counts p t) → (s : Bool) (n : ℕ) → n ≤ confirmed p s → (n ≤ played p false) × (n ≤ played p true)
-  both_played p h true n c = let u = h true in let v = h false in omega arith
-  both_played p h false n c = let u = h true in let v = h false in omega arith
+  both_played p h s n c = grind (arith, h true, h false)
 
   pub confirmed_grows : (p q : Plain I) → Grown p q → (s : Bool) → confirmed p s ≤ confirmed q s
-  confirmed_grows p q g s = let later = g.sides s in omega arith
+  confirmed_grows p q g s = omega (arith, g.sides s)
 
 module _ {S I : Type 0} (r : Rules S I) where
   pub confirmed_is_true : (p : Plain I) (s : Bool) (n : ℕ) → n ≤ confirmed p s → plain_state r p s n ≡ truth r p n

@@ -1,14 +1,14 @@
 -- The laws of the counts, of the notes, and what they give.
-use Rattle.std.proofs.Common.{◌≡◌, ℕ, ◌+◌, ◌<◌, ◌≤◌, max, Bool, true, false, cond, not, eqb, ltb, leb, List, [], ◌∷◌, ◌++◌, length, is_some, Some, None, Option, sym, refl, ap, subst, ⊎_elim, arith}
-use mathlib.Core.Bool.{beq}
+use Rattle.std.proofs.Common.{◌≡◌, ℕ, ◌+◌, ◌<◌, ◌≤◌, max, Bool, true, false, List, [], ◌∷◌, ◌++◌, length, Option, sym, ap, subst, ⊎_elim, arith}
 use Rattle.std.proofs.lemmas.List.{get_or_push, length_push}
-use Rattle.std.proofs.lemmas.Bool.{cases_lt, eqb-true, eqb-false}
+use Rattle.std.proofs.lemmas.Bool.{cases_lt}
+use Rattle.std.proofs.lemmas.Bool.Decides.{nat_tests}
 use Rattle.interface.specs.declared.answers.Refusal.{Refusal}
-use Rattle.interface.specs.declared.answers.Refusal.TheVariants.{UnreadCode, MatchOver, TooFarAhead, Unacknowledged, NoSuchDatagram, LogFull, BadFrame, NoSuchSeat}
+use Rattle.interface.specs.declared.answers.Refusal.TheVariants.{Unacknowledged}
 use Rattle.interface.specs.Answers.{number_of}
-use Rattle.interface.specs.Limits.{match_length, most_lead, most_unacknowledged}
+use Rattle.interface.specs.Limits.{match_length, most_lead}
 use Rattle.plain.specs.Rules.{Rules}
-use Rattle.plain.specs.Match.{Note, Plain, Turn, Move, Press, Send, Take, acting, other, side, played, known, acknowledged, note, fresh, pressed, noted, taken, answered, rightly_lent, input_of, move_refusal, refusal, run}
+use Rattle.plain.specs.Match.{Note, Plain, Turn, Move, Press, Send, Take, acting, other, side, played, known, acknowledged, note, fresh, pressed, noted, taken, answered, input_of, move_refusal, refusal, run}
 use Rattle.plain.specs.Laws.{Counts, CountLaws, codes, Welcome}
 use Rattle.plain.proofs.Steps.{Step, stays, presses, sends, takes, step, keeps}
 use Rattle.plain.proofs.Growth.{Grown, put_notes, step_grows}
@@ -31,39 +31,26 @@ pub record Sound {I : Type 0} (p : Plain I) : Type 0 where
 abbrev Not : Option Refusal → Type 0
 Not o = answered o ≡ number_of Unacknowledged → ⊥
 
--- a row of the table, and those below it
-row : (b : Bool) (why : Refusal) (o : Option Refusal) → (b ≡ true → number_of why ≡ number_of Unacknowledged → ⊥) → (b ≡ false → Not o) → Not (cond b (Some why) o)
-row true why o here below = here refl
-row false why o here below = below refl
-
 module _ {I : Type 0} where
   counts_pressed : (p : Plain I) (s : Bool) (x : I) → ((t : Bool) → Counts p t) → (played p s ≡ match_length → ⊥) → (played p s ≡ known p s + most_lead → ⊥) → (t : Bool) → Counts (pressed p s x) t
-  counts_pressed p true x h a b true = let u = h true in let v = h false in let n = length_push (side p true).inputs x in omega arith
-  counts_pressed p true x h a b false = let u = h true in let v = h false in let n = length_push (side p true).inputs x in omega arith
-  counts_pressed p false x h a b true = let u = h true in let v = h false in let n = length_push (side p false).inputs x in omega arith
-  counts_pressed p false x h a b false = let u = h true in let v = h false in let n = length_push (side p false).inputs x in omega arith
+  counts_pressed p s x h a b t = let n = length_push (side p s).inputs x in grind (arith, h true, h false)
 
   counts_taken : (p : Plain I) (s : Bool) (n : Note) → ((t : Bool) → Counts p t) → Noted p (other s) n → (t : Bool) → Counts (taken p s n) t
-  counts_taken p true n h a true = let u = h true in let v = h false in omega arith
-  counts_taken p true n h a false = let u = h true in let v = h false in omega arith
-  counts_taken p false n h a true = let u = h true in let v = h false in omega arith
-  counts_taken p false n h a false = let u = h true in let v = h false in omega arith
+  counts_taken p s n h a t = grind (arith, h true, h false)
 
   counts_noted : (p : Plain I) (s : Bool) → ((t : Bool) → Counts p t) → (t : Bool) → Counts (noted p s) t
-  counts_noted p s h true = let u = h true in omega arith
-  counts_noted p s h false = let u = h false in omega arith
+  counts_noted p s h t = grind (arith, h t)
 
   -- a seat's own counts, with those that the other's give
   pub acknowledged_at_most_played : (p : Plain I) → ((t : Bool) → Counts p t) → (s : Bool) → acknowledged p s ≤ played p s
-  acknowledged_at_most_played p h true = let u = h true in let v = h false in omega arith
-  acknowledged_at_most_played p h false = let u = h true in let v = h false in omega arith
+  acknowledged_at_most_played p h s = grind (arith, h true, h false)
 
   -- a note stays as good when the match grows
   noted_later : (p q : Plain I) (s : Bool) (n : Note) → Grown p q → Noted p s n → Noted q s n
-  noted_later p q s n g h = let later = g.sides s in omega arith
+  noted_later p q s n g h = omega (arith, g.sides s)
 
   new_note : (p : Plain I) (s : Bool) → ((t : Bool) → Counts p t) → Noted p s (record { sender = s; start = acknowledged p s; end = played p s; acknowledgement = known p s })
-  new_note p s h = let a = h s in let b = acknowledged_at_most_played p h s in omega arith
+  new_note p s h = omega (arith, h s, acknowledged_at_most_played p h s)
 
   notes_kept : (p q : Plain I) → Grown p q → Sound p → (k : ℕ) → k < length p.notes → Noted q (note q k).sender (note q k)
   notes_kept p q g h k inside = subst (λ n. Noted q n.sender n) (sym (g.same_notes k inside)) (noted_later p q _ _ g (h.notes k inside))
@@ -102,43 +89,28 @@ module _ {S I : Type 0} (r : Rules S I) where
   sound_fresh = record { counts = fresh_counts; notes = λ k h. absurd (omega arith) }
     where
       fresh_counts : (s : Bool) → Counts {I = I} fresh s
-      fresh_counts true = omega arith
-      fresh_counts false = omega arith
+      fresh_counts s = grind arith
 
   -- every run is sound
   pub sound : (ts : List Turn) → Sound (run r ts)
   sound ts = keeps r Sound (λ p t h. sound_step (step r p t) h) fresh ts sound_fresh
 
   move_never : (p : Plain I) (s : Bool) (m : Move) → Counts p s → Not (move_refusal r p s m)
-  move_never p s (Press code) h =
-      let P = played p s in
-      row (not (is_some (r.reads code))) UnreadCode _ (λ _ e. omega arith)
-      (λ _. row (eqb P match_length) MatchOver _ (λ _ e. omega arith)
-      (λ _. row (eqb P (known p s + most_lead)) TooFarAhead _ (λ _ e. omega arith)
-      (λ far. row (eqb P (acknowledged p s + most_unacknowledged)) Unacknowledged None (λ full _. omega (arith, eqb-false _ _ far, eqb-true _ _ full))
-      (λ _ e. omega arith))))
-  move_never p s (Send records) h = row (leb records (length p.notes)) LogFull None (λ _ e. omega arith) (λ _ e. omega arith)
-  move_never p s (Take k records) h =
-      row (leb records k) NoSuchDatagram _ (λ _ e. omega arith)
-      (λ _. row (leb (length p.notes) k) NoSuchDatagram _ (λ _ e. omega arith)
-      (λ _. row (beq (note p k).sender s) NoSuchDatagram None (λ _ e. omega arith)
-      (λ _ e. omega arith)))
+  move_never p s (Press code) h e = grind (arith, nat_tests)
+  move_never p s (Send records) h e = grind (arith, nat_tests)
+  move_never p s (Take k records) h e = grind (arith, nat_tests)
 
   turn_never : (p : Plain I) (t : Turn) → ((s : Bool) → Counts p s) → Not (refusal r p t)
-  turn_never p t h =
-      row (ltb 1 t.seat) NoSuchSeat _ (λ _ e. omega arith)
-      (λ _. row (not (rightly_lent t.slots)) BadFrame _ (λ _ e. omega arith)
-      (λ _. move_never p (acting t) t.move (h (acting t))))
+  turn_never p t h e = let never = move_never p (acting t) t.move (h (acting t)) in grind (arith, nat_tests)
 
   pub counts_hold : (ts : List Turn) → CountLaws r (run r ts)
   counts_hold ts = record { counts = (sound ts).counts; never_unacknowledged = λ t. turn_never (run r ts) t (sound ts).counts }
 
   pub codes_within : (ts : List Turn) (k : ℕ) → k < length (run r ts).notes → codes (note (run r ts) k) ≤ most_lead + most_lead
-  codes_within ts k inside = let h = (sound ts).notes k inside in omega arith
+  codes_within ts k inside = omega (arith, (sound ts).notes k inside)
 
   welcome_at : (p : Plain I) (s : Bool) (n : Note) → Sound p → Noted p (other s) n → (most : ℕ) → most_lead ≤ most → Welcome most p s n
-  welcome_at p true n h a most b = let u = h.counts true in let v = h.counts false in omega arith
-  welcome_at p false n h a most b = let u = h.counts true in let v = h.counts false in omega arith
+  welcome_at p s n h a most b = grind (arith, h.counts true, h.counts false)
 
   pub welcome : (most : ℕ) → most_lead ≤ most → (ts : List Turn) (s : Bool) (k : ℕ) → k < length (run r ts).notes → (note (run r ts) k).sender ≡ other s → Welcome most (run r ts) s (note (run r ts) k)
   welcome most b ts s k inside from = welcome_at (run r ts) s _ (sound ts) (subst (λ a. Noted (run r ts) a (note (run r ts) k)) from ((sound ts).notes k inside)) most b

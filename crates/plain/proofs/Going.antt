@@ -1,6 +1,7 @@
 -- The press that is never refused.
-use Rattle.std.proofs.Common.{◌≡◌, ℕ, ◌+◌, ◌<◌, ◌≤◌, Bool, true, false, not, eqb, List, length, is_some, Some, None, sym, refl, ap, ◌∙◌, subst, inl, inr, ⊎_elim, arith}
-use Rattle.std.proofs.lemmas.Bool.{cases_lt, cond-false, ne_eqb}
+use Rattle.std.proofs.Common.{◌≡◌, ℕ, ◌+◌, ◌<◌, ◌≤◌, Bool, true, List, length, Some, None, sym, ap, ◌∙◌, subst, inl, inr, ⊎_elim, arith}
+use Rattle.std.proofs.lemmas.Bool.{cases_lt}
+use Rattle.std.proofs.lemmas.Bool.Decides.{nat_tests}
 use Rattle.interface.specs.Answers.{accepted}
 use Rattle.interface.specs.Limits.{match_length, most_lead, most_unacknowledged}
 use Rattle.plain.specs.Rules.{Rules}
@@ -13,8 +14,7 @@ use Rattle.plain.proofs.Happening.{upto, upto_grows, upto_later, all_played, acc
 module _ {S I : Type 0} (r : Rules S I) where
   -- what a take of it heard
   hears : (p : Plain I) (s : Bool) (n : Note) → n.end ≤ known (taken p s n) s
-  hears p true n = omega arith
-  hears p false n = omega arith
+  hears p s n = grind arith
 
   take_hears : (ts : List Turn) (s : Bool) (j k : ℕ) → Takes r ts s j k → (k < length (upto r ts j).notes) × ((note (upto r ts j) k).end ≤ known (upto r ts (j + 1)) s)
   unfolding upto
@@ -42,8 +42,7 @@ module _ {S I : Type 0} (r : Rules S I) where
 
   nothing_played : (ts : List Turn) (t : Bool) → played (upto r ts 0) t ≡ 0
   unfolding upto
-  nothing_played ts true = refl
-  nothing_played ts false = refl
+  nothing_played ts t = grind arith
 
   caught_up_knows : (ts : List Turn) (s : Bool) → CaughtUp r ts s → played (run r ts) (other s) ≤ known (run r ts) s
   caught_up_knows ts s (inl latest) = latest_is_all ts s latest
@@ -51,15 +50,10 @@ module _ {S I : Type 0} (r : Rules S I) where
 
   -- a press with no row of the table against it
   press_passes_all : (d : Side I) (code : ℕ) (x : I) → r.reads code ≡ Some x → (length d.inputs ≡ match_length → ⊥) → (length d.inputs ≡ d.known_frames + most_lead → ⊥) → (length d.inputs ≡ d.acknowledged_frames + most_unacknowledged → ⊥) → press_refusal r d code ≡ None
-  press_passes_all d code x e a b c =
-      cond-false (not (is_some (r.reads code))) _ _ (ap (λ o. not (is_some o)) e)
-      ∙ cond-false (eqb (length d.inputs) match_length) _ _ (ne_eqb _ _ a)
-      ∙ cond-false (eqb (length d.inputs) (d.known_frames + most_lead)) _ _ (ne_eqb _ _ b)
-      ∙ cond-false (eqb (length d.inputs) (d.acknowledged_frames + most_unacknowledged)) _ _ (ne_eqb _ _ c)
+  press_passes_all d code x e a b c = grind (arith, nat_tests)
 
   seat_passes : (p : Plain I) (s : Bool) (l : Lent) (m : Move) → rightly_lent l ≡ true → move_refusal r p s m ≡ None → refusal r p (turn (seat_number s) l m) ≡ None
-  seat_passes p true l m e none = cond-false (not (rightly_lent l)) _ _ (ap not e) ∙ none
-  seat_passes p false l m e none = cond-false (not (rightly_lent l)) _ _ (ap not e) ∙ none
+  seat_passes p s l m e none = grind (arith, nat_tests)
 
   pub press_goes_on : (end : ℕ) → end ≤ match_length → (ts : List Turn) (s : Bool) (l : Lent) (code : ℕ) (x : I) → CaughtUp r ts s → played (run r ts) s ≤ played (run r ts) (other s) → played (run r ts) s < end → rightly_lent l ≡ true → r.reads code ≡ Some x → answer r (run r ts) (turn (seat_number s) l (Press code)) ≡ accepted
   press_goes_on end within ts s l code x caught level room lent reads =

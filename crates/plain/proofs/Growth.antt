@@ -1,5 +1,5 @@
 -- A plain match only grows: counts rise, and inputs and notes stay where they are.
-use Rattle.std.proofs.Common.{◌≡◌, ℕ, ◌<◌, ◌≤◌, Bool, true, false, List, [], ◌∷◌, ◌++◌, length, get_or, sym, refl, ◌∙◌, subst, arith}
+use Rattle.std.proofs.Common.{◌≡◌, ℕ, ◌<◌, ◌≤◌, Bool, List, [], ◌∷◌, ◌++◌, length, get_or, sym, refl, ◌∙◌, subst, arith}
 use Rattle.std.proofs.lemmas.List.{get_or_append_left, length_push}
 use Rattle.plain.specs.Rules.{Rules}
 use Rattle.plain.specs.Match.{Side, Note, Plain, Turn, side, put, played, known, acknowledged, note, after, onward, run}
@@ -20,19 +20,13 @@ pub record Grown {I : Type 0} (p q : Plain I) : Type 0 where
 
 module _ {I : Type 0} where
   later_same : (d : Side I) → Later d d
-  later_same d = record { played_more = omega arith; known_more = omega arith; acknowledged_more = omega arith; same_inputs = λ f x h. refl }
+  later_same d = grind arith
 
   later_after : (d e c : Side I) → Later d e → Later e c → Later d c
-  later_after d e c a b =
-      record {
-        played_more = omega arith;
-        known_more = omega arith;
-        acknowledged_more = omega arith;
-        same_inputs = λ f x h. b.same_inputs f x (omega arith) ∙ a.same_inputs f x h;
-      }
+  later_after d e c a b = grind arith
 
   pub grown_same : (p : Plain I) → Grown p p
-  grown_same p = record { sides = λ s. later_same (side p s); more_notes = omega arith; same_notes = λ k h. refl }
+  grown_same p = grind (arith, later_same)
 
   pub grown_after : (p q c : Plain I) → Grown p q → Grown q c → Grown p c
   grown_after p q c a b =
@@ -44,23 +38,17 @@ module _ {I : Type 0} where
 
   -- one seat's side has changed
   pub put_later : (p : Plain I) (s : Bool) (d : Side I) → Later (side p s) d → (t : Bool) → Later (side p t) (side (put p s d) t)
-  put_later p true d h true = h
-  put_later p true d h false = later_same _
-  put_later p false d h true = later_same _
-  put_later p false d h false = h
+  put_later p s d h t = grind (arith, later_same)
 
   pub put_notes : (p : Plain I) (s : Bool) (d : Side I) → (put p s d).notes ≡ p.notes
-  put_notes p true d = refl
-  put_notes p false d = refl
+  put_notes p s d = grind arith
 
   put_grown : (p : Plain I) (s : Bool) (d : Side I) → Later (side p s) d → Grown p (put p s d)
-  put_grown p true d h = record { sides = put_later p true d h; more_notes = omega arith; same_notes = λ k _. refl }
-  put_grown p false d h = record { sides = put_later p false d h; more_notes = omega arith; same_notes = λ k _. refl }
+  put_grown p s d h = record { sides = put_later p s d h; more_notes = grind (arith, put_notes); same_notes = λ k _. grind (arith, put_notes) }
 
   -- the sides of a match with one note more
   noted_side : (p : Plain I) (ns : List Note) (s : Bool) → side (record { seat_0 = p.seat_0; seat_1 = p.seat_1; notes = ns }) s ≡ side p s
-  noted_side p ns true = refl
-  noted_side p ns false = refl
+  noted_side p ns s = grind arith
 
 module _ {S I : Type 0} (r : Rules S I) where
   pub step_grows : {p q : Plain I} {t : Turn} → Step r p t q → Grown p q

@@ -1,5 +1,5 @@
 -- What a guess rule is given.
-use Rattle.std.proofs.Common.{◌≡◌, ℕ, zero, suc, ◌-◌, ◌<◌, ◌≤◌, List, [], ◌∷◌, length, get_or, take, sym, refl, ap, ◌∙◌, arith}
+use Rattle.std.proofs.Common.{◌≡◌, ℕ, zero, suc, ◌-◌, ◌<◌, ◌≤◌, List, [], ◌∷◌, length, get_or, take, refl, arith}
 use Rattle.std.proofs.lemmas.List.{get_or_default}
 use Rattle.plain.specs.Rules.{last_or}
 
@@ -8,10 +8,4 @@ pub last_known : {I : Type 0} (d : I) (xs : List I) (n : ℕ) → 0 < n → n �
 last_known d xs zero a b = absurd (omega arith)
 last_known d [] (suc n) a b = absurd (omega arith)
 last_known d (x ∷ xs) (suc zero) a b = refl
-last_known d (x ∷ xs) (suc (suc n)) a b =
-    let e : suc (suc n) - 1 ≡ suc n = omega arith in
-    let f : suc n - 1 ≡ n = omega arith in
-    last_known x xs (suc n) (omega arith) (omega arith)
-    ∙ ap (λ k. get_or xs k x) f
-    ∙ get_or_default xs n x d (omega arith)
-    ∙ sym (ap (λ k. get_or (x ∷ xs) k d) e)
+last_known d (x ∷ xs) (suc (suc n)) a b = let rest = last_known x xs (suc n) in grind (arith, get_or_default)

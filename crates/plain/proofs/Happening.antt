@@ -1,9 +1,8 @@
 -- What happened in a list of turns, turn by turn.
-use Rattle.std.proofs.Common.{◌≡◌, ℕ, zero, suc, ◌+◌, ◌<◌, ◌≤◌, Bool, true, false, ◌⊎◌, List, [], ◌∷◌, ◌++◌, length, get_or, take, drop, Some, None, Option, sym, refl, ap, ◌∙◌, subst, inl, inr, ⊎_elim, arith}
+use Rattle.std.proofs.Common.{◌≡◌, ℕ, zero, suc, ◌+◌, ◌<◌, ◌≤◌, Bool, ◌⊎◌, List, [], ◌∷◌, ◌++◌, length, take, drop, Some, None, Option, sym, refl, ap, ◌∙◌, subst, inl, ⊎_elim, arith}
 use Rattle.std.specs.List.{slice_get}
 use Rattle.std.proofs.lemmas.List.{take_all, take-take, take-append-drop, take_more, get_or_push, length_push}
-use Rattle.std.proofs.lemmas.Option.{slice_get-get_or}
-use Rattle.interface.proofs.Places.{nth_inside, nth_outside}
+use Rattle.std.proofs.lemmas.Option.{gets}
 use Rattle.plain.specs.Rules.{Rules}
 use Rattle.plain.specs.Match.{Note, Plain, Turn, Lent, Move, Press, Send, played, known, acknowledged, note, turn, seat_number, answered, refusal, moved, after, run}
 use Rattle.plain.specs.Turns.{Accepted, Presses, Sends}
@@ -11,12 +10,8 @@ use Rattle.plain.proofs.Steps.{Step, stays, presses, sends, takes, step, acting_
 use Rattle.plain.proofs.Growth.{Grown, run_grows}
 use Rattle.plain.proofs.Changes.{after_accepted}
 
-take_nth : (ts : List Turn) (i : ℕ) (t : Turn) → slice_get ts i ≡ Some t → take (i + 1) ts ≡ take i ts ++ t ∷ []
-take_nth ts i t e =
-    let inside = nth_inside ts i t e in
-    let there = slice_get-get_or ts i t inside in
-    let same : get_or ts i t ≡ t = cc in
-    take_more ts i t inside ∙ ap (λ x. take i ts ++ x ∷ []) same
+take_slice_get : (ts : List Turn) (i : ℕ) (t : Turn) → slice_get ts i ≡ Some t → take (i + 1) ts ≡ take i ts ++ t ∷ []
+take_slice_get ts i t e = grind (arith, gets, take_more)
 
 module _ {S I : Type 0} (r : Rules S I) where
   -- the match after the first i turns of a list
@@ -38,21 +33,14 @@ module _ {S I : Type 0} (r : Rules S I) where
 
   pub upto_next : (ts : List Turn) (i : ℕ) (t : Turn) → slice_get ts i ≡ Some t → upto ts (i + 1) ≡ after r (upto ts i) t
   unfolding upto
-  upto_next ts i t e = ap (run r) (take_nth ts i t e) ∙ run_more r (take i ts) t
+  upto_next ts i t e = ap (run r) (take_slice_get ts i t e) ∙ run_more r (take i ts) t
 
   -- a turn leaves a seat's P, or is its accepted press
   plays_or_not : {p q : Plain I} {t : Turn} → Step r p t q → (s : Bool) → (played q s ≡ played p s) ⊎ ((l : Lent) × (code : ℕ) × (t ≡ turn (seat_number s) l (Press code)) × (refusal r p t ≡ None))
   plays_or_not (stays why e) s = inl refl
-  plays_or_not (presses true l code e n _ _ _) true = inr (l, code, e, n)
-  plays_or_not (presses true l code e n _ _ _) false = inl refl
-  plays_or_not (presses false l code e n _ _ _) true = inl refl
-  plays_or_not (presses false l code e n _ _ _) false = inr (l, code, e, n)
-  plays_or_not (sends s l records e n) true = inl refl
-  plays_or_not (sends s l records e n) false = inl refl
-  plays_or_not (takes true l k records e n _ _) true = inl refl
-  plays_or_not (takes true l k records e n _ _) false = inl refl
-  plays_or_not (takes false l k records e n _ _) true = inl refl
-  plays_or_not (takes false l k records e n _ _) false = inl refl
+  plays_or_not (presses t l code e n _ _ _) s = grind arith
+  plays_or_not (sends t l records e n) s = inl (grind arith)
+  plays_or_not (takes t l k records e n _ _) s = inl (grind arith)
 
   -- so a turn that is no accepted press of a seat leaves its P
   no_press : (ts : List Turn) (s : Bool) (i : ℕ) → (Presses r ts s i → ⊥) → played (upto ts (i + 1)) s ≡ played (upto ts i) s
@@ -61,7 +49,7 @@ module _ {S I : Type 0} (r : Rules S I) where
     where
       at : (o : Option Turn) → slice_get ts i ≡ o → played (upto ts (i + 1)) s ≡ played (upto ts i) s
       at None e =
-          let past = nth_outside ts i e in
+          let past : length ts ≤ i = grind (arith, gets) in
           ap (λ q. played q s) (upto_all ts (i + 1) (omega arith) ∙ sym (upto_all ts i past))
       at (Some t) e =
           ap (λ q. played q s) (upto_next ts i t e)
@@ -78,12 +66,12 @@ module _ {S I : Type 0} (r : Rules S I) where
           (plays_or_not (step r (upto ts i) t) s)
 
   no_presses : (ts : List Turn) (s : Bool) (i : ℕ) → ((j : ℕ) → Presses r ts s j → j < i) → (d : ℕ) → played (upto ts (i + d)) s ≡ played (upto ts i) s
-  no_presses ts s i last zero = let e : i + 0 ≡ i = omega arith in ap (λ j. played (upto ts j) s) e
+  no_presses ts s i last zero = grind arith
   no_presses ts s i last (suc d) =
       let e : i + suc d ≡ i + d + 1 = omega arith in
-      ap (λ j. played (upto ts j) s) e
-      ∙ no_press ts s (i + d) (λ press. omega (arith, last (i + d) press))
-      ∙ no_presses ts s i last d
+      let here = no_press ts s (i + d) (λ press. omega (arith, last (i + d) press)) in
+      let rest = no_presses ts s i last d in
+      cc
 
   -- after its last accepted press a seat's P stays
   pub all_played : (ts : List Turn) (s : Bool) (i : ℕ) → ((j : ℕ) → Presses r ts s j → j < i) → played (run r ts) s ≡ played (upto ts i) s

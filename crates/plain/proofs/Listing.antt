@@ -11,6 +11,7 @@ pub length_down : {X : Type 0} (f : ℕ → X) (n : ℕ) → length (down_from f
 length_down f zero = refl
 length_down f (suc n) = let e = length_down f n in omega arith
 
+-- by hand, as grind stops at its limit here
 pub length_listed : {S I : Type 0} (r : Rules S I) (p : Plain I) (s : Bool) → length (listed r p s) ≡ min most_listed (played p s + 1)
 length_listed r p s = length-take most_listed _ ∙ ap (λ n. min most_listed n) (length_down (plain_state r p s) (played p s))
 
@@ -23,6 +24,7 @@ pub go_back : {X : Type 0} (f g : ℕ → X) (n d m : ℕ) → ((k : ℕ) → k 
 go_back f g n d m same = drop-take d m _ ∙ ap (take m) (drop_down f n d ∙ sym (down_same f g n same))
 
 -- a step ahead from n, where m states are left
+-- by hand, as grind stops at its limit here
 pub step_ahead : {X : Type 0} (g : ℕ → X) (n m : ℕ) → m < most_listed → take most_listed (g (suc n) ∷ take m (down_from g n)) ≡ take (suc m) (down_from g (suc n))
 step_ahead g n m h =
     let short = length-take m (down_from g n) in

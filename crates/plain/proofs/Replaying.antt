@@ -1,6 +1,6 @@
 -- The frames that a turn replays.
-use Rattle.std.proofs.Common.{◌≡◌, ℕ, zero, suc, ◌+◌, ◌-◌, ◌<◌, ◌≤◌, Bool, List, sym, refl, ap, ◌∙◌, subst, ⊎_elim, arith}
-use Rattle.std.proofs.lemmas.Bool.{cases_eq, cases_lt, cond-true, cond-false, eq-eqb, ne_eqb}
+use Rattle.std.proofs.Common.{◌≡◌, ℕ, zero, suc, ◌+◌, ◌-◌, ◌<◌, ◌≤◌, Bool, List, sym, refl, ap, ◌∙◌, subst, arith}
+use Rattle.std.proofs.lemmas.Bool.Decides.{nat_tests}
 use Rattle.interface.specs.Limits.{most_lead}
 use Rattle.plain.specs.Rules.{Rules, ReadsBack}
 use Rattle.plain.specs.Match.{Plain, Turn, Press, Send, Take, other, played, known, acting, turn, input_of, after, run}
@@ -13,81 +13,44 @@ use Rattle.plain.proofs.Walks.{known_input, same_states}
 use Rattle.plain.proofs.Changes.{either_way, refused_stays, press_hears_nothing, send_hears_nothing, others_keep, press_keeps, press_adds, send_keeps}
 
 module _ (f g : ℕ → ℕ) where
-  -- one frame of the search
-  pub same_here : (k n : ℕ) → f k ≡ g k → first_difference f g k (suc n) ≡ first_difference f g (k + 1) n
-  same_here k n e = cond-true _ _ _ (eq-eqb (f k) (g k) e)
-
-  pub other_here : (k n : ℕ) → (f k ≡ g k → ⊥) → first_difference f g k (suc n) ≡ k
-  other_here k n e = cond-false _ _ _ (ne_eqb (f k) (g k) e)
-
   pub first_from : (k n : ℕ) → k ≤ first_difference f g k n
   first_from k zero = omega arith
-  first_from k (suc n) =
-      ⊎_elim
-      (λ e. omega (arith, same_here k n e, first_from (k + 1) n))
-      (λ e. omega (arith, other_here k n e))
-      (cases_eq (f k) (g k))
+  first_from k (suc n) = let rest = first_from (k + 1) n in grind (arith, nat_tests)
 
   pub first_to : (k n : ℕ) → first_difference f g k n ≤ k + n
   first_to k zero = omega arith
-  first_to k (suc n) =
-      ⊎_elim
-      (λ e. omega (arith, same_here k n e, first_to (k + 1) n))
-      (λ e. omega (arith, other_here k n e))
-      (cases_eq (f k) (g k))
+  first_to k (suc n) = let rest = first_to (k + 1) n in grind (arith, nat_tests)
 
   -- below it they are the same
   pub same_below_first : (k n i : ℕ) → k ≤ i → i < first_difference f g k n → f i ≡ g i
   same_below_first k zero i a b = absurd (omega arith)
-  same_below_first k (suc n) i a b =
-      ⊎_elim
-      (λ e.
-      ⊎_elim
-      (λ here. let there : k ≡ i = here in subst (λ j. f j ≡ g j) there e)
-      (λ past. same_below_first (k + 1) n i (omega arith) (omega (arith, same_here k n e)))
-      (cases_eq k i))
-      (λ e. absurd (omega (arith, other_here k n e)))
-      (cases_eq (f k) (g k))
+  same_below_first k (suc n) i a b = let rest = same_below_first (k + 1) n i in grind (arith, nat_tests)
 
   -- and at it they differ, if it is one of the frames
   pub differ_at_first : (k n : ℕ) → first_difference f g k n < k + n → f (first_difference f g k n) ≡ g (first_difference f g k n) → ⊥
   differ_at_first k zero a = absurd (omega arith)
-  differ_at_first k (suc n) a =
-      ⊎_elim
-      (λ e. subst (λ j. f j ≡ g j → ⊥) (sym (same_here k n e)) (differ_at_first (k + 1) n (omega (arith, same_here k n e))))
-      (λ e. subst (λ j. f j ≡ g j → ⊥) (sym (other_here k n e)) e)
-      (cases_eq (f k) (g k))
+  differ_at_first k (suc n) a = let rest = differ_at_first (k + 1) n in grind (arith, nat_tests)
 
   -- it is the end where nothing differs
   pub no_difference : (n : ℕ) → ((i : ℕ) → f i ≡ g i) → first_difference f g 0 n ≡ n
-  no_difference n same =
-      ⊎_elim
-      (λ less. absurd (differ_at_first 0 n (omega arith) (same _)))
-      (λ past. omega (arith, first_to 0 n))
-      (cases_lt (first_difference f g 0 n) n)
+  no_difference n same = let at = differ_at_first 0 n in let top = first_to 0 n in grind (arith, same (first_difference f g 0 n))
 
   -- frames known to be the same need not be searched
   pub search_skips : (k m n : ℕ) → ((i : ℕ) → k ≤ i → i < k + m → f i ≡ g i) → first_difference f g k (m + n) ≡ first_difference f g (k + m) n
-  search_skips k zero n same =
-      let a : 0 + n ≡ n = omega arith in
-      let b : k ≡ k + 0 = omega arith in
-      ap (first_difference f g k) a ∙ ap (λ j. first_difference f g j n) b
+  search_skips k zero n same = grind arith
   search_skips k (suc m) n same =
       let a : suc m + n ≡ suc (m + n) = omega arith in
       let b : k + 1 + m ≡ k + suc m = omega arith in
-      ap (first_difference f g k) a
-      ∙ same_here k (m + n) (same k (omega arith) (omega arith))
-      ∙ search_skips (k + 1) m n (λ i from to. same i (omega arith) (omega arith))
-      ∙ ap (λ j. first_difference f g j n) b
+      let here = same k (omega arith) (omega arith) in
+      let step : first_difference f g k (suc (m + n)) ≡ first_difference f g (k + 1) (m + n) = grind (arith, nat_tests) in
+      let rest = search_skips (k + 1) m n (λ i from to. same i (omega arith) (omega arith)) in
+      cc
 
 module _ {S I : Type 0} (r : Rules S I) where
   -- two inputs with one code are one
   pub same_code : ReadsBack r → (x y : I) → r.code x ≡ r.code y → x ≡ y
   same_code back x y e =
-      let a = back x in
-      let b = back y in
-      let c : r.reads (r.code x) ≡ r.reads (r.code y) = ap r.reads e in
-      cc
+      let a = back x in let b = back y in cc
 
   pub nothing_changes : (p q : Plain I) (s : Bool) → ((f : ℕ) → other_input r q s f ≡ other_input r p s f) → played p s - lowest_change r p q s ≡ 0
   nothing_changes p q s same =
@@ -121,17 +84,11 @@ module _ {S I : Type 0} (r : Rules S I) where
     -- where q is later, it is not below the known frames
     pub lowest_from_known : Grown p q → Counts p s → lowest_change r p q s < played p s → known p s ≤ lowest_change r p q s
     lowest_from_known g c less =
-        ⊎_elim
-        (λ below. absurd (differ_at_lowest less (known_stays p q s g c.known_was_played _ below)))
-        (λ above. above)
-        (cases_lt (lowest_change r p q s) (known p s))
+        let stays = known_stays p q s g c.known_was_played (lowest_change r p q s) in let differ = differ_at_lowest less in grind arith
 
     few_replayed : Grown p q → Counts p s → played p s - lowest_change r p q s ≤ most_lead
     few_replayed g c =
-        ⊎_elim
-        (λ less. let from = lowest_from_known g c less in omega arith)
-        (λ none. omega arith)
-        (cases_lt (lowest_change r p q s) (played p s))
+        let from = lowest_from_known g c in grind arith
 
     first_replayed : played p s - (played p s - lowest_change r p q s) ≡ lowest_change r p q s
     first_replayed = let top = lowest_to in omega arith

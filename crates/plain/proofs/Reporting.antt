@@ -1,5 +1,5 @@
 -- The state that a datagram reports on is the same where it was sent and where it is taken.
-use Rattle.std.proofs.Common.{◌≡◌, ℕ, ◌+◌, ◌<◌, ◌≤◌, Bool, true, false, List, length, take, sym, refl, ap, ◌∙◌, arith}
+use Rattle.std.proofs.Common.{◌≡◌, ℕ, ◌+◌, ◌<◌, ◌≤◌, Bool, true, false, List, length, take, sym, ap, ◌∙◌, arith}
 use Rattle.plain.specs.Rules.{Rules}
 use Rattle.plain.specs.Match.{Note, Plain, Turn, other, played, known, confirmed, note, taken, run}
 use Rattle.plain.specs.States.{plain_state, truth}
@@ -13,18 +13,15 @@ use Rattle.plain.proofs.Happening.{upto, upto_later, send_notes}
 
 module _ {I : Type 0} where
   knows_report : (p : Plain I) (s : Bool) (n : Note) → report n ≤ known (taken p s n) s
-  knows_report p true n = omega arith
-  knows_report p false n = omega arith
+  knows_report p s n = grind arith
 
   -- both seats have played up to the frame that a note reports on
   report_played : (p : Plain I) (s : Bool) (n : Note) → ((t : Bool) → Counts p t) → Noted p s n → (report n ≤ played p false) × (report n ≤ played p true)
-  report_played p true n h a = let u = h true in omega arith
-  report_played p false n h a = let u = h false in omega arith
+  report_played p s n h a = grind (arith, h s)
 
 module _ {S I : Type 0} (r : Rules S I) where
   truth_taken : (p : Plain I) (s : Bool) (n : Note) (m : ℕ) → truth r (taken p s n) m ≡ truth r p m
-  truth_taken p true n m = refl
-  truth_taken p false n m = refl
+  truth_taken p s n m = grind arith
 
   pub reports_agree : (ts : List Turn) (s : Bool) (i k : ℕ) → Sends r ts (other s) i k → let n = note (run r ts) k in (report n ≡ confirmed (run r (take i ts)) (other s)) × (plain_state r (taken (run r ts) s n) s (report n) ≡ plain_state r (run r (take i ts)) (other s) (report n))
   unfolding upto

@@ -1,10 +1,7 @@
 -- What a turn may do to a plain match, and a run turn by turn.
-use Rattle.std.proofs.Common.{◌≡◌, ℕ, ◌+◌, ◌<◌, Bool, true, false, cond, not, eqb, ltb, leb, List, [], ◌∷◌, ◌++◌, length, is_some, Some, None, Option, unwrap_or, sym, refl, ap, arith}
-use mathlib.Core.Bool.{beq}
-use Rattle.std.proofs.lemmas.Bool.{eqb-false, leb-false, not-false}
+use Rattle.std.proofs.Common.{◌≡◌, ℕ, ◌+◌, ◌<◌, Bool, true, false, cond, eqb, ltb, List, [], ◌∷◌, ◌++◌, length, Some, None, Option, refl, ap, arith}
 use Rattle.std.proofs.lemmas.Bool.Decides.{nat_tests}
 use Rattle.interface.specs.declared.answers.Refusal.{Refusal}
-use Rattle.interface.specs.declared.answers.Refusal.TheVariants.{BadLength, BadMark, BadCheckWord, NotOurs, UnreadCode, StartTooLate, EndTooLate, AcknowledgementTooLate, ReportTooLate, Parted, MatchOver, TooFarAhead, Unacknowledged, BufferTooShort, OutOfReach, Unlawful, NoSuchDatagram, LogFull, BadFrame, NoSuchSeat, BadFirstLine, BadLine, BadNumber, BadEnding, TraceTooLong}
 use Rattle.interface.specs.Answers.{accepted, number_of}
 use Rattle.interface.specs.Limits.{match_length, most_lead}
 use Rattle.plain.specs.Rules.{Rules}
@@ -12,57 +9,20 @@ use Rattle.plain.specs.Match.{Side, Plain, Lent, Move, Press, Send, Take, Turn, 
 
 -- no refusal has the number 0
 pub above_0 : (why : Refusal) → 0 < number_of why
-above_0 BadLength = omega arith
-above_0 BadMark = omega arith
-above_0 BadCheckWord = omega arith
-above_0 NotOurs = omega arith
-above_0 UnreadCode = omega arith
-above_0 StartTooLate = omega arith
-above_0 EndTooLate = omega arith
-above_0 AcknowledgementTooLate = omega arith
-above_0 ReportTooLate = omega arith
-above_0 Parted = omega arith
-above_0 MatchOver = omega arith
-above_0 TooFarAhead = omega arith
-above_0 Unacknowledged = omega arith
-above_0 BufferTooShort = omega arith
-above_0 OutOfReach = omega arith
-above_0 Unlawful = omega arith
-above_0 NoSuchDatagram = omega arith
-above_0 LogFull = omega arith
-above_0 BadFrame = omega arith
-above_0 NoSuchSeat = omega arith
-above_0 BadFirstLine = omega arith
-above_0 BadLine = omega arith
-above_0 BadNumber = omega arith
-above_0 BadEnding = omega arith
-above_0 TraceTooLong = omega arith
+above_0 why = grind arith
 
 pub accepted_only : (o : Option Refusal) → answered o ≡ accepted → o ≡ None
-accepted_only None e = refl
-accepted_only (Some why) e = absurd (omega (arith, above_0 why))
+accepted_only o e = grind (arith, above_0)
 
 -- where a row of the table does not apply, and the rows below it do not
 pub passes : (b : Bool) (why : Refusal) (o : Option Refusal) → cond b (Some why) o ≡ None → (b ≡ false) × (o ≡ None)
-passes true why o e = absurd (let z : ◌≡◌ {A = ℕ} 0 1 = cc in omega arith)
-passes false why o e = (refl, e)
+passes b why o e = grind arith
 
 pub is_a_seat : (n : ℕ) → ltb 1 n ≡ false → n ≡ seat_number (eqb n 1)
 is_a_seat n e = grind (arith, nat_tests)
 
 pub acting_seat : (s : Bool) → eqb (seat_number s) 1 ≡ s
-acting_seat true = refl
-acting_seat false = refl
-
-pub unlike : (a s : Bool) → beq a s ≡ false → a ≡ not s
-unlike true true e = e
-unlike true false e = refl
-unlike false true e = refl
-unlike false false e = sym e
-
-pub what_reads : {I : Type 0} (o : Option I) (d : I) → is_some o ≡ true → o ≡ Some (unwrap_or o d)
-what_reads None d e = absurd (let z : ◌≡◌ {A = ℕ} 0 1 = cc in omega arith)
-what_reads (Some x) d e = refl
+acting_seat s = grind arith
 
 -- the ways from a match to the next, with what was accepted
 pub data Step {S I : Type 0} (r : Rules S I) (p : Plain I) (t : Turn) : Plain I → Type 0 where
@@ -74,24 +34,13 @@ pub data Step {S I : Type 0} (r : Rules S I) (p : Plain I) (t : Turn) : Plain I 
 -- what an accepted turn has passed: its seat and its slots, then the rows of its move
 module _ {S I : Type 0} (r : Rules S I) where
   pub turn_passes : (p : Plain I) (t : Turn) → refusal r p t ≡ None → (ltb 1 t.seat ≡ false) × (rightly_lent t.slots ≡ true) × (move_refusal r p (acting t) t.move ≡ None)
-  turn_passes p t e =
-      let a = passes (ltb 1 t.seat) NoSuchSeat _ e in
-      let b = passes (not (rightly_lent t.slots)) BadFrame _ a.1 in
-      (a.0, not-false _ b.0, b.1)
+  turn_passes p t e = grind (arith, nat_tests)
 
   pub press_passes : (d : Side I) (code : ℕ) → press_refusal r d code ≡ None → (r.reads code ≡ Some (input_of r code)) × (length d.inputs ≡ match_length → ⊥) × (length d.inputs ≡ d.known_frames + most_lead → ⊥)
-  press_passes d code e =
-      let a = passes (not (is_some (r.reads code))) UnreadCode _ e in
-      let b = passes (eqb (length d.inputs) match_length) MatchOver _ a.1 in
-      let c = passes (eqb (length d.inputs) (d.known_frames + most_lead)) TooFarAhead _ b.1 in
-      (what_reads (r.reads code) r.idle (not-false _ a.0), eqb-false _ _ b.0, eqb-false _ _ c.0)
+  press_passes d code e = grind (arith, nat_tests)
 
 pub take_passes : {I : Type 0} (p : Plain I) (s : Bool) (k records : ℕ) → take_refusal p s k records ≡ None → (k < records) × (k < length p.notes) × ((note p k).sender ≡ other s)
-take_passes p s k records e =
-    let a = passes (leb records k) NoSuchDatagram _ e in
-    let b = passes (leb (length p.notes) k) NoSuchDatagram _ a.1 in
-    let c = passes (beq (note p k).sender s) NoSuchDatagram None b.1 in
-    (leb-false _ _ a.0, leb-false _ _ b.0, unlike _ _ c.0)
+take_passes p s k records e = grind (arith, nat_tests)
 
 module _ {S I : Type 0} (r : Rules S I) (p : Plain I) where
   step_at : (n : ℕ) (l : Lent) (m : Move) (o : Option Refusal) → refusal r p (turn n l m) ≡ o → Step r p (turn n l m) (unless_refused o p (moved r p (eqb n 1) m))

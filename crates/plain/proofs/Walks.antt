@@ -1,10 +1,11 @@
 -- States are the same where the inputs are, and what a seat lists.
-use Rattle.std.proofs.Common.{◌≡◌, ℕ, zero, suc, ◌+◌, ◌-◌, ◌<◌, ◌≤◌, Bool, true, false, List, [], ◌∷◌, take, Some, refl, ap, ◌∙◌, arith}
+use Rattle.std.proofs.Common.{◌≡◌, ℕ, zero, suc, ◌+◌, ◌-◌, ◌<◌, ◌≤◌, Bool, true, false, [], ◌∷◌, Some, refl, ap, ◌∙◌, arith}
 use Rattle.std.specs.List.{slice_get}
 use Rattle.std.proofs.lemmas.List.{length-take}
+use Rattle.std.proofs.lemmas.Option.{slice_get_within}
 use Rattle.std.proofs.lemmas.Bool.{cond-true, lt-ltb}
 use Rattle.interface.specs.Limits.{most_listed}
-use Rattle.interface.proofs.Places.{nth_inside}
+use Rattle.interface.proofs.Slots.{slice_get-take}
 use Rattle.plain.specs.Rules.{Rules}
 use Rattle.plain.specs.Match.{Plain, other, played, known}
 use Rattle.plain.specs.States.{walk, true_input, other_input, plain_state, truth, stepped, down_from, listed}
@@ -27,8 +28,7 @@ module _ {S I : Type 0} (r : Rules S I) where
 
   -- one frame more
   pub next_frame : (p : Plain I) (s : Bool) (n : ℕ) → plain_state r p s (suc n) ≡ stepped r s (plain_state r p s n) (true_input r p s n) (other_input r p s n)
-  next_frame p true n = refl
-  next_frame p false n = refl
+  next_frame p s n = grind arith
 
   -- a known input is the true one
   pub known_input : (p : Plain I) (s : Bool) (f : ℕ) → f < known p s → other_input r p s f ≡ true_input r p (other s) f
@@ -43,17 +43,11 @@ module _ {S I : Type 0} (r : Rules S I) where
   pub truth_stays : (p q : Plain I) → Grown p q → (n : ℕ) → n ≤ played p false → n ≤ played p true → truth r q n ≡ truth r p n
   truth_stays p q g n a b = walk_same _ _ _ _ n (λ k i. (g.sides false).same_inputs k r.idle (omega arith)) (λ k i. (g.sides true).same_inputs k r.idle (omega arith))
 
-nth_take : {X : Type 0} (n : ℕ) (xs : List X) (i : ℕ) → i < n → slice_get (take n xs) i ≡ slice_get xs i
-nth_take zero xs i h = absurd (omega arith)
-nth_take (suc n) [] i h = refl
-nth_take (suc n) (x ∷ xs) zero h = refl
-nth_take (suc n) (x ∷ xs) (suc i) h = nth_take n xs i (omega arith)
-
-nth_down : {X : Type 0} (f : ℕ → X) (m i : ℕ) → i ≤ m → slice_get (down_from f m) i ≡ Some (f (m - i))
-nth_down f zero zero h = refl
-nth_down f zero (suc i) h = absurd (omega arith)
-nth_down f (suc m) zero h = let e : suc m ≡ suc m - 0 = omega arith in ap (λ k. Some (f k)) e
-nth_down f (suc m) (suc i) h = let e : m - i ≡ suc m - suc i = omega arith in nth_down f m i (omega arith) ∙ ap (λ k. Some (f k)) e
+slice_get_down : {X : Type 0} (f : ℕ → X) (m i : ℕ) → i ≤ m → slice_get (down_from f m) i ≡ Some (f (m - i))
+slice_get_down f zero zero h = refl
+slice_get_down f zero (suc i) h = absurd (omega arith)
+slice_get_down f (suc m) zero h = grind arith
+slice_get_down f (suc m) (suc i) h = let rest = slice_get_down f m i in grind arith
 
 -- the same values down from n
 pub down_same : {X : Type 0} (f g : ℕ → X) (n : ℕ) → ((k : ℕ) → k ≤ n → g k ≡ f k) → down_from g n ≡ down_from f n
@@ -65,21 +59,17 @@ down_same f g (suc n) h =
 
 module _ {S I : Type 0} (r : Rules S I) where
   -- place i of the list has state P − i
-  pub nth_listed : (p : Plain I) (s : Bool) (i : ℕ) → i ≤ played p s → i < most_listed → slice_get (listed r p s) i ≡ Some (plain_state r p s (played p s - i))
-  nth_listed p s i a b = nth_take most_listed _ i b ∙ nth_down (plain_state r p s) (played p s) i a
+  pub slice_get_listed : (p : Plain I) (s : Bool) (i : ℕ) → i ≤ played p s → i < most_listed → slice_get (listed r p s) i ≡ Some (plain_state r p s (played p s - i))
+  slice_get_listed p s i a b = slice_get-take most_listed (down_from (plain_state r p s) (played p s)) i b ∙ slice_get_down (plain_state r p s) (played p s) i a
 
   pub lists : (p : Plain I) (s : Bool) (n : ℕ) → n ≤ played p s → played p s < n + most_listed → Lists r p s n (plain_state r p s n)
   lists p s n a b =
       let e : played p s - (played p s - n) ≡ n = omega arith in
-      (a, nth_listed p s (played p s - n) (omega arith) (omega arith) ∙ ap (λ k. Some (plain_state r p s k)) e)
+      (a, slice_get_listed p s (played p s - n) (omega arith) (omega arith) ∙ ap (λ k. Some (plain_state r p s k)) e)
 
   -- what a seat lists as its state n is its plain state n
   pub listed_is : (p : Plain I) (s : Bool) (n : ℕ) (x : S) → Lists r p s n x → x ≡ plain_state r p s n
   listed_is p s n x h =
-      let inside = nth_inside (listed r p s) (played p s - n) x h.1 in
-      let short = length-take most_listed (down_from (plain_state r p s) (played p s)) in
-      let a = h.0 in
-      let b : played p s < n + most_listed = omega arith in
-      let there = (lists p s n a b).1 in
-      let here = h.1 in
-      cc
+      let inside = slice_get_within (listed r p s) (played p s - n) x h.1 in
+      let there = lists p s n h.0 in
+      grind (arith, length-take)

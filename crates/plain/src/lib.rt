@@ -2,7 +2,7 @@
 // laws that hold after any list of turns. specs/ has the definitions, and docs/ENGINE.md says them in words.
 //
 // No program runs this crate. Each public function states laws by its contract, for all states S and inputs I, and answers
-// the number that they speak of.
+// the number that they speak of. The bound of a law is asked of its number alone, which nothing else holds, so no type stands for it.
 #![tactic(auto)]
 
 ghost use Rattle.std.specs.Prelude.{◌≡◌, ◌+◌, ◌≤◌};

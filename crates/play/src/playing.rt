@@ -22,7 +22,8 @@ use match_engine::log::Record;
 use match_engine::state::Match;
 use seat::state::Slots;
 
-// Makes the turns one after another, and tells of each.
+// Makes the turns one after another, and tells of each in its place: of the places that `iter_mut` lends nothing is proved of what is left
+// in them.
 fn play_turns<
     G: Game,
     K0: Keeper<G>,
@@ -42,25 +43,19 @@ fn play_turns<
     told: &mut [Told],
 )
     requires room { length turns.now ≤ length told.old }
-    ensures leaves { (opening : State) → whole_memory K0.Keeper.kept K1.Keeper.kept game.new (slot_lists own_0.new other_0.new digests_0.new) (slot_lists own_1.new other_1.new digests_1.new) (entries log.new) ≡ through (setup opening G.Game.next G.Input.InputKind.idle G.Input.InputKind.reads G.Input.InputKind.code H0.GuessRule.guessed H1.GuessRule.guessed) (whole_memory K0.Keeper.kept K1.Keeper.kept game.old (slot_lists own_0.old other_0.old digests_0.old) (slot_lists own_1.old other_1.old digests_1.old) (entries log.old)) (steps_of turns.now) }
-    ensures tells { (opening : State) → map told_of (take (length turns.now) told.new) ≡ tale (setup opening G.Game.next G.Input.InputKind.idle G.Input.InputKind.reads G.Input.InputKind.code H0.GuessRule.guessed H1.GuessRule.guessed) (whole_memory K0.Keeper.kept K1.Keeper.kept game.old (slot_lists own_0.old other_0.old digests_0.old) (slot_lists own_1.old other_1.old digests_1.old) (entries log.old)) (steps_of turns.now) }
+    ensures leaves { (opening : State) → whole_memory K0.kept K1.kept game.new (slot_lists own_0.new other_0.new digests_0.new) (slot_lists own_1.new other_1.new digests_1.new) (entries log.new) ≡ through (setup opening G.next G.Input.idle G.Input.reads G.Input.code H0.guessed H1.guessed) (whole_memory K0.kept K1.kept game.old (slot_lists own_0.old other_0.old digests_0.old) (slot_lists own_1.old other_1.old digests_1.old) (entries log.old)) (steps_of turns.now) }
+    ensures tells { (opening : State) → map told_of (take (length turns.now) told.new) ≡ tale (setup opening G.next G.Input.idle G.Input.reads G.Input.code H0.guessed H1.guessed) (whole_memory K0.kept K1.kept game.old (slot_lists own_0.old other_0.old digests_0.old) (slot_lists own_1.old other_1.old digests_1.old) (entries log.old)) (steps_of turns.now) }
     ensures later { drop (length turns.now) told.new ≡ drop (length turns.now) told.old }
 {
-    for i in 0..turns.len() {
+    for (i, turn) in turns.iter().enumerate() {
         told[i] = step(
-            game, turns[i], own_0, other_0, digests_0, own_1, other_1, digests_1, log,
+            game, *turn, own_0, other_0, digests_0, own_1, other_1, digests_1, log,
         );
     }
 }
 
-// Whether there are a seat's 32 slots of each kind, or more.
-fn are_enough<I>(own: &[I], other: &[I], digests: &[u32]) -> bool
-    ensures { result ≡ enough_slots (slot_lists own.now other.now digests.now) }
-{
-    own.len() >= QUEUE_SLOTS && other.len() >= QUEUE_SLOTS && digests.len() >= QUEUE_SLOTS
-}
-
-// Opens a match with 32 slots of each kind.
+// Opens a match with 32 slots of each kind: a function of its own, since of fronts that are lent within a struct nothing is proved of what
+// they leave.
 fn open_match<
     G: Game,
     K0: Keeper<G>,
@@ -79,9 +74,9 @@ fn open_match<
 ) -> Match<G, K0, K1, H0, H1>
     requires first { whole_slots (slot_lists own_0.old other_0.old digests_0.old) ≡ true }
     requires second { whole_slots (slot_lists own_1.old other_1.old digests_1.old) ≡ true }
-    ensures { (log : List Entry) → whole_memory K0.Keeper.kept K1.Keeper.kept result (slot_lists own_0.new other_0.new digests_0.new) (slot_lists own_1.new other_1.new digests_1.new) log ≡ opened (G.Game.opening seed) match_number (slot_lists own_0.old other_0.old digests_0.old) (slot_lists own_1.old other_1.old digests_1.old) log }
+    ensures { (log : List Entry) → whole_memory K0.kept K1.kept result (slot_lists own_0.new other_0.new digests_0.new) (slot_lists own_1.new other_1.new digests_1.new) log ≡ opened (G.opening seed) match_number (slot_lists own_0.old other_0.old digests_0.old) (slot_lists own_1.old other_1.old digests_1.old) log }
 {
-    let Ok(game) = Match::open(
+    Match::open(
         match_number,
         seed,
         Slots {
@@ -94,10 +89,8 @@ fn open_match<
             other: other_1,
             digests: digests_1,
         },
-    ) else {
-        unreachable()
-    };
-    game
+    )
+    .unwrap()
 }
 
 // Opens a match with the first 32 slots of each kind, which are the seats' own.
@@ -119,7 +112,7 @@ fn open_fronts<
 ) -> Match<G, K0, K1, H0, H1>
     requires first { enough_slots (slot_lists own_0.old other_0.old digests_0.old) ≡ true }
     requires second { enough_slots (slot_lists own_1.old other_1.old digests_1.old) ≡ true }
-    ensures { (log : List Entry) → whole_memory K0.Keeper.kept K1.Keeper.kept result (slot_lists own_0.new other_0.new digests_0.new) (slot_lists own_1.new other_1.new digests_1.new) log ≡ opened (G.Game.opening seed) match_number (slot_lists own_0.old other_0.old digests_0.old) (slot_lists own_1.old other_1.old digests_1.old) log }
+    ensures { (log : List Entry) → whole_memory K0.kept K1.kept result (slot_lists own_0.new other_0.new digests_0.new) (slot_lists own_1.new other_1.new digests_1.new) log ≡ opened (G.opening seed) match_number (slot_lists own_0.old other_0.old digests_0.old) (slot_lists own_1.old other_1.old digests_1.old) log }
 {
     open_match(
         match_number,
@@ -151,9 +144,18 @@ pub fn play<
     told: &mut [Told],
 ) -> Result<Match<G, K0, K1, H0, H1>, Refusal>
     ensures answer { MatchResult result (λ _. play_refusal (slot_lists first.entry.own.now first.entry.other.now first.entry.digests.now) (slot_lists second.entry.own.now second.entry.other.now second.entry.digests.now) turns.now told.old ≡ None) (λ why. play_refusal (slot_lists first.entry.own.now first.entry.other.now first.entry.digests.now) (slot_lists second.entry.own.now second.entry.other.now second.entry.digests.now) turns.now told.old ≡ Some why) }
-    ensures leaves { MatchResult result (λ m. Played (setup (G.Game.opening seed) G.Game.next G.Input.InputKind.idle G.Input.InputKind.reads G.Input.InputKind.code H0.GuessRule.guessed H1.GuessRule.guessed) (opened (G.Game.opening seed) match_number (slot_lists first.entry.own.now first.entry.other.now first.entry.digests.now) (slot_lists second.entry.own.now second.entry.other.now second.entry.digests.now) (entries log.old)) (whole_memory K0.Keeper.kept K1.Keeper.kept m (slot_lists first.exit.0.now first.exit.1.0.now first.exit.1.1.0.now) (slot_lists second.exit.0.now second.exit.1.0.now second.exit.1.1.0.now) (entries log.new)) turns.now told.old told.new) (λ _. (slot_lists first.exit.0.now first.exit.1.0.now first.exit.1.1.0.now ≡ slot_lists first.entry.own.now first.entry.other.now first.entry.digests.now) × (slot_lists second.exit.0.now second.exit.1.0.now second.exit.1.1.0.now ≡ slot_lists second.entry.own.now second.entry.other.now second.entry.digests.now) × (log.new ≡ log.old) × (told.new ≡ told.old)) }
-    ensures promise { MatchResult result (λ _. GoesAsPlain (setup (G.Game.opening seed) G.Game.next G.Input.InputKind.idle G.Input.InputKind.reads G.Input.InputKind.code H0.GuessRule.guessed H1.GuessRule.guessed) match_number (opened (G.Game.opening seed) match_number (slot_lists first.entry.own.now first.entry.other.now first.entry.digests.now) (slot_lists second.entry.own.now second.entry.other.now second.entry.digests.now) (entries log.old))) (λ _. Unit) }
+    ensures leaves { MatchResult result (λ m. Played (setup (G.opening seed) G.next G.Input.idle G.Input.reads G.Input.code H0.guessed H1.guessed) (opened (G.opening seed) match_number (slot_lists first.entry.own.now first.entry.other.now first.entry.digests.now) (slot_lists second.entry.own.now second.entry.other.now second.entry.digests.now) (entries log.old)) (whole_memory K0.kept K1.kept m (slot_lists first.exit.0.now first.exit.1.0.now first.exit.1.1.0.now) (slot_lists second.exit.0.now second.exit.1.0.now second.exit.1.1.0.now) (entries log.new)) turns.now told.old told.new) (λ _. (slot_lists first.exit.0.now first.exit.1.0.now first.exit.1.1.0.now ≡ slot_lists first.entry.own.now first.entry.other.now first.entry.digests.now) × (slot_lists second.exit.0.now second.exit.1.0.now second.exit.1.1.0.now ≡ slot_lists second.entry.own.now second.entry.other.now second.entry.digests.now) × (log.new ≡ log.old) × (told.new ≡ told.old)) }
+    ensures promise { MatchResult result (λ _. GoesAsPlain (setup (G.opening seed) G.next G.Input.idle G.Input.reads G.Input.code H0.guessed H1.guessed) match_number (opened (G.opening seed) match_number (slot_lists first.entry.own.now first.entry.other.now first.entry.digests.now) (slot_lists second.entry.own.now second.entry.other.now second.entry.digests.now) (entries log.old))) (λ _. Unit) }
 {
+    if !first.are_enough() {
+        return Err(Refusal::BadFrame);
+    }
+    if !second.are_enough() {
+        return Err(Refusal::BadFrame);
+    }
+    if told.len() < turns.len() {
+        return Err(Refusal::BufferTooShort);
+    }
     let Slots {
         own,
         other,
@@ -164,15 +166,6 @@ pub fn play<
         other: other_1,
         digests: digests_1,
     } = second;
-    if !are_enough(own, other, digests) {
-        return Err(Refusal::BadFrame);
-    }
-    if !are_enough(own_1, other_1, digests_1) {
-        return Err(Refusal::BadFrame);
-    }
-    if told.len() < turns.len() {
-        return Err(Refusal::BufferTooShort);
-    }
     let mut game = open_fronts(
         match_number,
         seed,

@@ -1,5 +1,5 @@
 // One turn of a list.
-ghost use Rattle.std.specs.Prelude.{◌≡◌, min};
+ghost use Rattle.std.specs.Prelude.{◌≡◌};
 ghost use Rattle.interface.specs.Games.{State};
 ghost use Rattle.refine.specs.Setup.{setup};
 ghost use Rattle.refine.specs.Memory.{SlotLists, slot_lists};
@@ -19,13 +19,6 @@ use match_engine::log::Record;
 use match_engine::state::Match;
 use seat::state::Slots;
 
-// As many as are lent, or all.
-fn front(number: usize, all: usize) -> usize
-    ensures { result ≡ min number all }
-{
-    number.min(all)
-}
-
 // Makes a turn's call with what is lent to it.
 fn make_call<
     G: Game,
@@ -41,46 +34,17 @@ fn make_call<
     digests: &mut [u32],
     log: &mut [Record],
 ) -> (u32, u32)
-    ensures { (opening : State) (rest : SlotLists G.Input) → Does (setup opening G.Game.next G.Input.InputKind.idle G.Input.InputKind.reads G.Input.InputKind.code H0.GuessRule.guessed H1.GuessRule.guessed) (memory K0.Keeper.kept K1.Keeper.kept game.old turn.seat (slot_lists own.old other.old digests.old) rest (entries log.old)) turn.seat (call_of turn.call) (outcome (memory K0.Keeper.kept K1.Keeper.kept game.new turn.seat (slot_lists own.new other.new digests.new) rest (entries log.new)) result.0 result.1) }
+    ensures { (opening : State) (rest : SlotLists G.Input) → Does (setup opening G.next G.Input.idle G.Input.reads G.Input.code H0.guessed H1.guessed) (memory K0.kept K1.kept game.old turn.seat (slot_lists own.old other.old digests.old) rest (entries log.old)) turn.seat (call_of turn.call) (outcome (memory K0.kept K1.kept game.new turn.seat (slot_lists own.new other.new digests.new) rest (entries log.new)) result.0 result.1) }
 {
+    let lent = Slots {
+        own,
+        other,
+        digests,
+    };
     match turn.call {
-        Call::Press(code) => {
-            let code = game.press(
-                turn.seat,
-                Slots {
-                    own,
-                    other,
-                    digests,
-                },
-                code,
-            );
-            return (code, 0);
-        }
-        Call::Send => {
-            let code = game.send(
-                turn.seat,
-                Slots {
-                    own,
-                    other,
-                    digests,
-                },
-                log,
-            );
-            return (code, 0);
-        }
-        Call::Take(k) => {
-            let answer = game.take(
-                turn.seat,
-                Slots {
-                    own,
-                    other,
-                    digests,
-                },
-                log,
-                k,
-            );
-            return answer;
-        }
+        Call::Press(code) => (game.press(turn.seat, lent, code), 0),
+        Call::Send => (game.send(turn.seat, lent, log), 0),
+        Call::Take(k) => game.take(turn.seat, lent, log, k),
     }
 }
 
@@ -99,25 +63,26 @@ fn make_turn<
     digests: &mut [u32],
     log: &mut [Record],
 ) -> (u32, u32)
-    ensures leaves { (opening : State) (rest : SlotLists G.Input) → memory K0.Keeper.kept K1.Keeper.kept game.new turn.seat (slot_lists own.new other.new digests.new) rest (entries log.new) ≡ next (setup opening G.Game.next G.Input.InputKind.idle G.Input.InputKind.reads G.Input.InputKind.code H0.GuessRule.guessed H1.GuessRule.guessed) (memory K0.Keeper.kept K1.Keeper.kept game.old turn.seat (slot_lists own.old other.old digests.old) rest (entries log.old)) (step_of turn) }
-    ensures answers { (opening : State) (rest : SlotLists G.Input) → (result.0 ≡ (step_result (setup opening G.Game.next G.Input.InputKind.idle G.Input.InputKind.reads G.Input.InputKind.code H0.GuessRule.guessed H1.GuessRule.guessed) (memory K0.Keeper.kept K1.Keeper.kept game.old turn.seat (slot_lists own.old other.old digests.old) rest (entries log.old)) (step_of turn)).code) × (result.1 ≡ (step_result (setup opening G.Game.next G.Input.InputKind.idle G.Input.InputKind.reads G.Input.InputKind.code H0.GuessRule.guessed H1.GuessRule.guessed) (memory K0.Keeper.kept K1.Keeper.kept game.old turn.seat (slot_lists own.old other.old digests.old) rest (entries log.old)) (step_of turn)).frames) }
+    ensures leaves { (opening : State) (rest : SlotLists G.Input) → memory K0.kept K1.kept game.new turn.seat (slot_lists own.new other.new digests.new) rest (entries log.new) ≡ next (setup opening G.next G.Input.idle G.Input.reads G.Input.code H0.guessed H1.guessed) (memory K0.kept K1.kept game.old turn.seat (slot_lists own.old other.old digests.old) rest (entries log.old)) (step_of turn) }
+    ensures answers { (opening : State) (rest : SlotLists G.Input) → (result.0 ≡ (step_result (setup opening G.next G.Input.idle G.Input.reads G.Input.code H0.guessed H1.guessed) (memory K0.kept K1.kept game.old turn.seat (slot_lists own.old other.old digests.old) rest (entries log.old)) (step_of turn)).code) × (result.1 ≡ (step_result (setup opening G.next G.Input.idle G.Input.reads G.Input.code H0.guessed H1.guessed) (memory K0.kept K1.kept game.old turn.seat (slot_lists own.old other.old digests.old) rest (entries log.old)) (step_of turn)).frames) }
 {
-    let own_slots = front(turn.own, own.len());
-    let other_slots = front(turn.other, other.len());
-    let digest_slots = front(turn.digests, digests.len());
-    let records = front(turn.records, log.len());
-    let answer = make_call(
+    let own_slots = turn.own.min(own.len());
+    let other_slots = turn.other.min(other.len());
+    let digest_slots = turn.digests.min(digests.len());
+    let records = turn.records.min(log.len());
+    make_call(
         game,
         turn,
         &mut own[..own_slots],
         &mut other[..other_slots],
         &mut digests[..digest_slots],
         &mut log[..records],
-    );
-    answer
+    )
 }
 
-// Makes a turn of a match with the slots of both seats, and tells what it answered and the seat's P and R after it.
+// Makes a turn of a match with the slots of both seats, and tells what it answered and the seat's P and R after it. Each slice is lent
+// by itself: of a struct of `&mut`s that is handed on nothing is proved of what it leaves. The arms end apart: joined, the proof has to say
+// of each of nine values which arm left it.
 pub(crate) fn step<
     G: Game,
     K0: Keeper<G>,
@@ -135,8 +100,8 @@ pub(crate) fn step<
     digests_1: &mut [u32],
     log: &mut [Record],
 ) -> Told
-    ensures leaves { (opening : State) → whole_memory K0.Keeper.kept K1.Keeper.kept game.new (slot_lists own_0.new other_0.new digests_0.new) (slot_lists own_1.new other_1.new digests_1.new) (entries log.new) ≡ next (setup opening G.Game.next G.Input.InputKind.idle G.Input.InputKind.reads G.Input.InputKind.code H0.GuessRule.guessed H1.GuessRule.guessed) (whole_memory K0.Keeper.kept K1.Keeper.kept game.old (slot_lists own_0.old other_0.old digests_0.old) (slot_lists own_1.old other_1.old digests_1.old) (entries log.old)) (step_of turn) }
-    ensures told { (opening : State) → told_of result ≡ told (setup opening G.Game.next G.Input.InputKind.idle G.Input.InputKind.reads G.Input.InputKind.code H0.GuessRule.guessed H1.GuessRule.guessed) (whole_memory K0.Keeper.kept K1.Keeper.kept game.old (slot_lists own_0.old other_0.old digests_0.old) (slot_lists own_1.old other_1.old digests_1.old) (entries log.old)) (step_of turn) }
+    ensures leaves { (opening : State) → whole_memory K0.kept K1.kept game.new (slot_lists own_0.new other_0.new digests_0.new) (slot_lists own_1.new other_1.new digests_1.new) (entries log.new) ≡ next (setup opening G.next G.Input.idle G.Input.reads G.Input.code H0.guessed H1.guessed) (whole_memory K0.kept K1.kept game.old (slot_lists own_0.old other_0.old digests_0.old) (slot_lists own_1.old other_1.old digests_1.old) (entries log.old)) (step_of turn) }
+    ensures told { (opening : State) → told_of result ≡ told (setup opening G.next G.Input.idle G.Input.reads G.Input.code H0.guessed H1.guessed) (whole_memory K0.kept K1.kept game.old (slot_lists own_0.old other_0.old digests_0.old) (slot_lists own_1.old other_1.old digests_1.old) (entries log.old)) (step_of turn) }
 {
     let second = turn.seat == 1;
     if second {

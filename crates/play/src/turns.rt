@@ -1,7 +1,7 @@
 // The turns of a list, and what is told of each.
 
 // What a turn asks for.
-#[derive(Clone, Copy)]
+#[derive(Clone, Copy, PartialEq, Eq, Debug)]
 pub enum Call {
     // Press this code.
     Press(u16),
@@ -10,8 +10,8 @@ pub enum Call {
     Take(u32),
 }
 
-// A turn: the seat's number, the call, and how many slots of each queue and how many records it is lent, from the front; all, where there are fewer.
-#[derive(Clone, Copy)]
+// A turn: the seat's number, as the match takes it and refuses all but two, the call, and how many slots of each queue and how many records it is lent, from the front; all, where there are fewer.
+#[derive(Clone, Copy, PartialEq, Eq, Debug)]
 pub struct Turn {
     pub seat: u32,
     pub call: Call,
@@ -21,8 +21,8 @@ pub struct Turn {
     pub records: usize,
 }
 
-// What a turn answers, and the seat's P and R after it.
-#[derive(Clone, Copy)]
+// What a turn answers, by its number in the table, and the seat's P and R after it.
+#[derive(Clone, Copy, PartialEq, Eq, Debug)]
 pub struct Told {
     pub code: u32,
     pub frames: u32,

@@ -1,14 +1,13 @@
 // Plays a short Duel, takes its last frames back by their trails, and draws the grid.
 #![tactic(auto)]
 
-use duel::board::{Board, Cell};
+use duel::board::{Board, Cell, SIDE};
 use duel::input::DuelInput;
 use duel::state::Duel;
 use interface::digest::digest;
 use interface::game::{Game, Trail};
 use interface::input::InputKind;
-use std::alloc::{AllocError, Global};
-use std::io;
+use std::{fmt, io};
 
 // The walls of the opening come from the seed.
 const SEED: u32 = 0x0018_1800;
@@ -30,62 +29,86 @@ const SCRIPT: [(u16, u16); 10] = [
 // How many frames are taken back at the end.
 const TAKEN_BACK: usize = 3;
 
-// The words before a frame, and the trail that leads back to them.
+// The state before a frame, and the trail that leads back to it.
 #[derive(Clone, Copy)]
 struct Played {
-    words: [u32; 10],
+    before: Duel,
     trail: Trail,
 }
 
-fn words_of(duel: &Duel) -> [u32; 10] {
-    let mut words = [0; 10];
-    for k in 0..10u32 {
-        words[k as usize] = duel.word(k).unwrap_or(0);
+// A state, printed as its words, each after a space, and its digest.
+#[derive(Clone, Copy)]
+struct State(Duel);
+
+impl fmt::Display for State {
+    fn fmt<W: fmt::Write>(&self, f: &mut fmt::Formatter<W>) -> fmt::Result {
+        for word in self.0.view().words() {
+            write!(f, " {word}")?;
+        }
+        write!(f, ", digest {}", digest(&self.0))
     }
-    words
 }
 
-fn print_state(rt: &HostRuntime, duel: &Duel) -> io::Result<()> {
-    for word in words_of(duel) {
-        print!(rt; " {word}")?;
+// A board, printed as its grid and its scores.
+#[derive(Clone, Copy)]
+struct Drawing(Board);
+
+impl fmt::Display for Drawing {
+    fn fmt<W: fmt::Write>(&self, f: &mut fmt::Formatter<W>) -> fmt::Result {
+        let Board {
+            first,
+            second,
+            walls,
+        } = self.0;
+        for row in 0..SIDE {
+            for column in 0..SIDE {
+                let cell = Cell { column, row };
+                let mark = if cell == first.cell {
+                    '0'
+                } else if cell == second.cell {
+                    '1'
+                } else if walls.has(cell) {
+                    '#'
+                } else {
+                    '.'
+                };
+                write!(f, " {mark}")?;
+            }
+            writeln!(f)?;
+        }
+        write!(
+            f,
+            "seat 0 has {}, seat 1 has {}; # is a wall",
+            first.score, second.score
+        )
     }
-    let sum = digest(duel);
-    println!(rt; ", digest {sum}")
 }
 
 fn play(rt: &HostRuntime, duel: &mut Duel, played: &mut Vec<Played>) -> io::Result<()> {
-    let mut frame = 0u32;
     for (first, second) in SCRIPT {
         let (Some(one), Some(two)) = (DuelInput::read(first), DuelInput::read(second)) else {
             println!(rt; "codes {first} and {second} do not both read")?;
             continue;
         };
-        let words = words_of(duel);
+        let frame = played.len();
+        let before = *duel;
         let trail = duel.step(one, two);
-        played.push(Played { words, trail })?;
-        print!(rt; "frame {frame}, codes {first} and {second}:")?;
-        print_state(rt, duel)?;
-        frame = frame.saturating_add(1);
+        played.push(Played { before, trail })?;
+        println!(rt;
+            "frame {frame}, codes {first} and {second}:{}",
+            State(*duel)
+        )?;
     }
     Ok(())
 }
 
-fn take_back(rt: &HostRuntime, duel: &mut Duel, played: &mut Vec<Played>) -> io::Result<()> {
-    for _ in 0..TAKEN_BACK {
-        let Some(last) = played.pop() else {
-            break;
-        };
-        let words = last.words;
-        let trail = last.trail;
-        match duel.undo(&trail) {
-            Ok(()) => print!(rt; "taken back:")?,
-            Err(why) => {
-                let number = why.number();
-                print!(rt; "refused with {number}:")?;
-            }
+fn take_back(rt: &HostRuntime, duel: &mut Duel, played: &[Played]) -> io::Result<()> {
+    for Played { before, trail } in played.iter().rev().take(TAKEN_BACK) {
+        match duel.undo(trail) {
+            Ok(()) => println!(rt; "taken back:{}", State(*duel))?,
+            Err(why) => println!(rt; "refused with {}:{}", why.number(), State(*duel))?,
         }
-        print_state(rt, duel)?;
-        let verdict = if words == words_of(duel) {
+        let verdict = if *duel == *before {
             "the words it had"
         } else {
             "OTHER WORDS"
@@ -95,47 +118,15 @@ fn take_back(rt: &HostRuntime, duel: &mut Duel, played: &mut Vec<Played>) -> io:
     Ok(())
 }
 
-fn mark(board: Board, cell: Cell) -> char {
-    if board.first.cell.same(cell) {
-        '0'
-    } else if board.second.cell.same(cell) {
-        '1'
-    } else if board.walls.has(cell) {
-        '#'
-    } else {
-        '.'
-    }
-}
-
-fn drawn_row(heap: Global, board: Board, row: u32) -> Result<String, AllocError> {
-    let mut line = String::new(heap);
-    for column in 0..8 {
-        line.push(' ')?;
-        line.push(mark(board, Cell { column, row }))?;
-    }
-    Ok(line)
-}
-
-fn draw(rt: &HostRuntime, board: Board) -> io::Result<()> {
-    for row in 0..8 {
-        let line = drawn_row(rt.alloc(), board, row)?;
-        println!(rt; "{line}")?;
-    }
-    let first = board.first.score;
-    let second = board.second.score;
-    println!(rt; "seat 0 has {first}, seat 1 has {second}; # is a wall")
-}
-
 fn main(rt: HostRuntime) -> io::Result<()> {
     let mut duel = Duel::open(SEED);
     let mut played = Vec::new(rt.alloc());
     println!(rt;
         "words: column, row, facing and score of seat 0, the same of seat 1, two wall words"
     )?;
-    print!(rt; "seed {SEED}:")?;
-    print_state(&rt, &duel)?;
+    println!(rt; "seed {SEED}:{}", State(duel))?;
     play(&rt, &mut duel, &mut played)?;
-    draw(&rt, duel.view())?;
-    take_back(&rt, &mut duel, &mut played)?;
-    draw(&rt, duel.view())
+    println!(rt; "{}", Drawing(duel.view()))?;
+    take_back(&rt, &mut duel, &played)?;
+    println!(rt; "{}", Drawing(duel.view()))
 }

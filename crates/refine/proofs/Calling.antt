@@ -1,10 +1,10 @@
 -- Each call of a match that stands, by what it asks for.
 use Rattle.std.proofs.Common.{◌≡◌, ℕ, ◌+◌, ◌-◌, ◌<◌, ◌≤◌, max, Bool, true, false, cond, ltb, leb, List, [], ◌∷◌, ◌++◌, length, get_or, take, drop, set, Some, None, Option, sym, refl, ap, ◌∙◌, subst, ⊎_elim, arith, length-set}
-use mathlib.Core.Bool.{beq}
 use Rattle.std.proofs.lemmas.List.{get_or-set_same}
-use Rattle.std.proofs.lemmas.Bool.{cases_Bool, cond-true, cond-false, and_from, not_from_true, not_from_false, leb-false}
+use Rattle.std.proofs.lemmas.Bool.{cases_Bool, cond-true, cond-false, leb-false}
+use Rattle.std.proofs.lemmas.Bool.Decides.{nat_tests}
 use Rattle.interface.specs.declared.answers.Refusal.{Refusal}
-use Rattle.interface.specs.declared.answers.Refusal.TheVariants.{NoSuchDatagram, LogFull, BadFrame, NoSuchSeat}
+use Rattle.interface.specs.declared.answers.Refusal.TheVariants.{LogFull, BadFrame, NoSuchSeat}
 use Rattle.interface.specs.Answers.{accepted}
 use Rattle.interface.specs.Games.{State}
 use Rattle.plain.specs.Rules.{Rules}
@@ -20,7 +20,7 @@ use Rattle.datagram.specs.Layout.{bytes_of}
 use Rattle.seat.specs.Views.{View, rightly_lent}
 use Rattle.seat.specs.Calls as calls
 use Rattle.refine.specs.Setup.{Setup, rules, setting_of, Lawful}
-use Rattle.refine.specs.Memory.{Entry, Memory, seat, put_seat, no_entry, entry, datagram}
+use Rattle.refine.specs.Memory.{Memory, seat, put_seat, no_entry, entry, datagram}
 use Rattle.refine.specs.Outcomes.{Call, Pressing, Sending, Taking, Outcome, outcome, numbered, log_check, check, made, written, appended, result, lent, as_turn, move}
 use Rattle.refine.specs.Standing.{SeatStands, Sent, Stands, fields_of, well_brought, Brings, HasRoom, GoesOn, KeepsStanding}
 use Rattle.refine.proofs.Seats.{stood, is_stood, SlotsHold, slots_hold, still_stands}
@@ -32,14 +32,6 @@ use Rattle.refine.proofs.Logging.{seat_kept, own_seat, other_seat, put_sent, put
 use Rattle.refine.proofs.Results.{result_refused}
 use Rattle.refine.proofs.Results as results
 use Rattle.refine.proofs.Turning.{refused_goes_on, accepted_goes_on}
-
-noted_sides : {I : Type 0} (p : Plain I) (s t : Bool) → side (noted p s) t ≡ side p t
-noted_sides p s true = refl
-noted_sides p s false = refl
-
-cond_same : {X : Type 0} (b : Bool) (x y z : X) → (b ≡ false → y ≡ z) → cond b x y ≡ cond b x z
-cond_same true x y z e = refl
-cond_same false x y z e = e refl
 
 module _ {I : Type 0} (a : Setup I) (lawful : Lawful a) (match_number : ℕ) (ts : List Turn) (m b : Memory I) (n : ℕ) (stands : Stands a match_number ts m) (brings : Brings m b n) where
   abbrev r : Rules State I
@@ -57,14 +49,14 @@ module _ {I : Type 0} (a : Setup I) (lawful : Lawful a) (match_number : ℕ) (ts
 
   module _ (is_seat : ltb 1 n ≡ false) (whole : rightly_lent (seat b s) ≡ true) where
     well : well_brought b n ≡ true
-    well = and_from _ _ (not_from_false _ is_seat) whole
+    well = grind arith
 
     -- the seat and its slots are let through
     check_log : (c : Call) → check b n c ≡ log_check b s c
     check_log c = results.check_log a b n is_seat c whole
 
     refusal_move : (c : Call) → refusal r p (as_turn b n c) ≡ move_refusal r p s (move b c)
-    refusal_move c = cond-false _ _ _ is_seat ∙ cond-false _ _ _ (not_from_true _ whole)
+    refusal_move c = grind arith
 
     result_made : (c : Call) → log_check b s c ≡ None → result a b n c ≡ made a b s c
     result_made c e = results.result_made a b n c (check_log c ∙ e)
@@ -162,7 +154,7 @@ module _ {I : Type 0} (a : Setup I) (lawful : Lawful a) (match_number : ℕ) (ts
         (result_made Sending e ∙ ap (λ z. outcome z (calls.send_answer (setting_of a s) (seat b s) x.bytes).0 0) added)
         (refusal_move Sending ∙ e') well
         (subst (λ w. SeatStands r match_number q s w) (sym (seat_kept b (set b.log b.sent y) (b.sent + 1) s ∙ brings.own_slots well))
-        (still_stands r match_number p q s v (noted_sides p s s) grown (counts s) (λ k. send_keeps_moved r p s s k) (stands.seats s)))
+        (still_stands r match_number p q s v (grind arith) grown (counts s) (λ k. send_keeps_moved r p s s k) (stands.seats s)))
         (seat_kept b (set b.log b.sent y) (b.sent + 1) (other s))
         (subst (λ l. Logged r match_number q l (b.sent + 1)) (sym more)
         (subst (λ k. Logged r match_number q (m.log ++ y ∷ []) (k + 1)) (sym same) (logged_more r match_number p s m.log m.sent y (sound r ts) grown wrote (logged r match_number p m stands))))
@@ -173,16 +165,9 @@ module _ {I : Type 0} (a : Setup I) (lawful : Lawful a) (match_number : ℕ) (ts
     -- Take.
     log_same : (k : ℕ) → log_check b s (Taking k) ≡ take_refusal p s k (length b.log)
     log_same k =
-        cond_same (leb (length b.log) k) (Some NoSuchDatagram) _ _
-        (λ lent_it.
-        ap (λ j. cond (leb j k) (Some NoSuchDatagram) (cond (beq (entry b k).sender s) (Some NoSuchDatagram) None)) noted_all
-        ∙ cond_same (leb (length p.notes) k) (Some NoSuchDatagram) _ _
-        (λ noted_it.
-        let inside = leb-false (length b.log) k lent_it in
-        let below = leb-false (length p.notes) k noted_it in
-        let all = stands.all_sent in
-        let low : k < m.sent = omega arith in
-        ap (λ u. cond (beq u s) (Some NoSuchDatagram) None) (ap (λ (x : Entry). x.sender) (brings.same_log k low inside) ∙ (stands.log_stands k low).its_sender)))
+        let same = brings.same_log k in
+        let logged = stands.log_stands k in
+        grind (arith, nat_tests, noted_all, stands.all_sent)
 
     take_goes : (k : ℕ) → GoesOn a match_number ts m b n (Taking k) (result a b n (Taking k))
     take_goes k = at (take_refusal p s k (length b.log)) refl
@@ -229,13 +214,12 @@ module _ {I : Type 0} (a : Setup I) (lawful : Lawful a) (match_number : ℕ) (ts
   pub goes_on : (c : Call) → HasRoom b c → GoesOn a match_number ts m b n c (result a b n c)
   goes_on c room =
       ⊎_elim
-      (λ bad. barred c NoSuchSeat (cond-true _ _ _ bad) (cond-true _ _ _ bad))
+      (λ bad. barred c NoSuchSeat (grind arith) (grind arith))
       (λ fine.
       ⊎_elim
       (λ right. goes fine right c room)
       (λ wrong.
-      let w = not_from_false (rightly_lent (seat b s)) wrong in
-      barred c BadFrame (cond-false _ _ _ fine ∙ cond-true _ _ _ w) (cond-false _ _ _ fine ∙ cond-true _ _ _ w))
+      barred c BadFrame (grind arith) (grind arith))
       (cases_Bool (rightly_lent (seat b s))))
       (cases_Bool (ltb 1 n))
 

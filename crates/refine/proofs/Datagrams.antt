@@ -1,5 +1,5 @@
 -- The datagram of a note: it stays the same, and it fits its bytes.
-use Rattle.std.proofs.Common.{◌≡◌, ℕ, zero, suc, ◌+◌, ◌-◌, ◌^◌, ◌<◌, ◌≤◌, Bool, true, false, List, [], ◌∷◌, map, length, sym, refl, ap, ◌∙◌, subst, arith}
+use Rattle.std.proofs.Common.{◌≡◌, ℕ, zero, suc, ◌+◌, ◌-◌, ◌^◌, ◌<◌, ◌≤◌, Bool, List, [], ◌∷◌, map, length, sym, refl, ap, ◌∙◌, subst, arith}
 use Rattle.std.specs.List.{range_with_len, AllByRecursion}
 use Rattle.std.proofs.lemmas.List.FromFn.{length-map-range_with_len}
 use Rattle.interface.specs.Digest.{digest_of}
@@ -19,10 +19,7 @@ use Rattle.refine.specs.Standing.{fields_of, Sent}
 
 pub map_counting_same : {X : Type 0} (f g : ℕ → X) (from n : ℕ) → ((k : ℕ) → from ≤ k → k < from + n → f k ≡ g k) → map f (range_with_len from n) ≡ map g (range_with_len from n)
 map_counting_same f g from zero same = refl
-map_counting_same f g from (suc n) same =
-    let here = same from (omega arith) (omega arith) in
-    let rest = map_counting_same f g (from + 1) n (λ k low high. same k (omega arith) (omega arith)) in
-    cc
+map_counting_same f g from (suc n) same = let rest = map_counting_same f g (from + 1) n in grind (arith, same)
 
 all_map : (f : ℕ → ℕ) (P : ℕ → Type 0) → ((k : ℕ) → P (f k)) → (ks : List ℕ) → AllByRecursion P (map f ks)
 all_map f P each [] = tt
@@ -48,8 +45,7 @@ module _ {I : Type 0} (r : Rules State I) (match_number : ℕ) where
       })
 
 seat_small : (s : Bool) → seat_number s < 2
-seat_small true = omega arith
-seat_small false = omega arith
+seat_small s = grind arith
 
 module _ {I : Type 0} (a : Setup I) (lawful : Lawful a) (match_number : ℕ) where
   pub fields_fit : (p : Plain I) (n : Note) → match_number < 2 ^ 16 → ((t : Bool) → Counts p t) → Noted p n.sender n → Fits (fields_of (rules a) match_number p n)

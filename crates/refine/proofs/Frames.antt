@@ -1,6 +1,5 @@
 -- The inputs and states of a seat that stands are those of the plain match.
-use Rattle.std.proofs.Common.{◌≡◌, ℕ, zero, suc, ◌+◌, ◌-◌, ◌<◌, ◌≤◌, Bool, true, false, List, ◌∷◌, take, None, unwrap_or, sym, refl, ap, ◌∙◌, subst, ⊎_elim, arith}
-use Rattle.std.proofs.lemmas.Bool.{cases_lt, cond-true, cond-false, lt-ltb, le-ltb}
+use Rattle.std.proofs.Common.{◌≡◌, ℕ, zero, suc, ◌+◌, ◌-◌, ◌<◌, ◌≤◌, Bool, List, ◌∷◌, take, None, unwrap_or, sym, ap, ◌∙◌, subst, arith}
 use Rattle.std.proofs.lemmas.Bool.Decides.{nat_tests}
 use Rattle.interface.specs.Digest.{digest_of}
 use Rattle.interface.specs.Games.{State}
@@ -22,12 +21,11 @@ none_held : {T : Type 0} (slots : List T) → held slots 0 (0 - 1) ≡ None
 none_held slots = grind (arith, nat_tests)
 
 pub newest_down : (f : ℕ → State) (n m : ℕ) → 0 < m → newest (take m (down_from f n)) ≡ f n
-newest_down f n zero h = absurd (omega arith)
-newest_down f zero (suc m) h = refl
-newest_down f (suc n) (suc m) h = refl
+newest_down f n m h = grind arith
 
 module _ {I : Type 0} (a : Setup I) (p : Plain I) (s : Bool) where
   -- the last known input
+  -- by hand, as grind stops at its limit here
   last_input : (others : List I) → known p s ≤ played p (other s) → Holds others (known p s) (true_input (rules a) p (other s)) → input_at (setting_of a s) others (known p s) (known p s - 1) ≡ last_or a.idle (known_inputs p s)
   last_input others few h = at (known p s) few h
     where
@@ -46,15 +44,12 @@ module _ {I : Type 0} (a : Setup I) (p : Plain I) (s : Bool) where
 
       at : other_at (setting_of a s) (record { own = q.own; played = q.played; others = q.others; known = known p s }) f ≡ other_input (rules a) p s f
       at =
-          ⊎_elim
-          (λ below. cond-true _ _ _ (lt-ltb f (known p s) below) ∙ holds_reads q.others (known p s) f _ a.idle below near h' ∙ sym (cond-true _ _ _ (lt-ltb f (known p s) below)))
-          (λ above. cond-false _ _ _ (le-ltb f (known p s) above) ∙ ap (λ x. (setting_of a s).guessed x (f + 1 - known p s)) (last_input q.others few h') ∙ sym (cond-false _ _ _ (le-ltb f (known p s) above)))
-          (cases_lt f (known p s))
+          let known_one = holds_reads q.others (known p s) f (true_input (rules a) p (other s)) a.idle in
+          grind (arith, nat_tests, last_input q.others few h')
 
 -- a frame in the order of the seats
 pub ordered : {I : Type 0} (a : Setup I) (s : Bool) (x : State) (own others : I) → let o = in_order s (own, others) in a.next x o.0 o.1 ≡ stepped (rules a) s x own others
-ordered a true x own others = refl
-ordered a false x own others = refl
+ordered a s x own others = grind arith
 
 -- Stepping through frames: q has the inputs of frames j to j + n − 1 as the plain match has them.
 pub record Fed {I : Type 0} (a : Setup I) (p : Plain I) (s : Bool) (q : Inputs I) (j : ℕ) : Type 0 where

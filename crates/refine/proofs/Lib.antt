@@ -13,7 +13,6 @@ pub mod Refusing
 pub mod Opening
 pub mod Moments
 pub mod Leaving
-pub mod Playing
-pub mod Plays
 pub mod Matching
 pub mod Matches
+pub mod Plays

@@ -1,7 +1,8 @@
 -- The log as sends fill it, and the seats of a memory.
-use Rattle.std.proofs.Common.{◌≡◌, ℕ, ◌+◌, ◌<◌, Bool, true, false, List, [], ◌∷◌, ◌++◌, length, get_or, take, drop, sym, refl, ap, ◌∙◌, subst, ⊎_elim, arith}
-use Rattle.std.proofs.lemmas.List.{append-nil, drop_all, drop-take, drop_more, length-take, length_push, get_or_push, get_or_append_left}
+use Rattle.std.proofs.Common.{◌≡◌, ℕ, ◌+◌, ◌<◌, Bool, true, false, List, [], ◌∷◌, ◌++◌, length, get_or, take, drop, sym, subst, ⊎_elim, arith}
+use Rattle.std.proofs.lemmas.List.{drop-take, drop_more, length_push, get_or_push, get_or_append_left}
 use Rattle.std.proofs.lemmas.Bool.{cases_lt}
+use Rattle.std.proofs.lemmas.Grind.{common_steps}
 use Rattle.interface.specs.Games.{State}
 use Rattle.plain.specs.Rules.{Rules}
 use Rattle.plain.specs.Match.{Plain, other, note, noted}
@@ -15,39 +16,29 @@ use Rattle.refine.proofs.Sending.{new_note}
 
 -- what holds of a seat and of the other
 pub both : (P : Bool → Type 0) (s : Bool) → P s → P (other s) → (t : Bool) → P t
-both P true x y true = x
-both P true x y false = y
-both P false x y true = y
-both P false x y false = x
+both P s x y t = grind arith
 
 module _ {I : Type 0} where
   pub own_seat : (m : Memory I) (s : Bool) (v : View I) → seat (put_seat m s v) s ≡ v
-  own_seat m true v = refl
-  own_seat m false v = refl
+  own_seat m s v = grind arith
 
   pub other_seat : (m : Memory I) (s : Bool) (v : View I) → seat (put_seat m s v) (other s) ≡ seat m (other s)
-  other_seat m true v = refl
-  other_seat m false v = refl
+  other_seat m s v = grind arith
 
   pub put_log : (m : Memory I) (s : Bool) (v : View I) → (put_seat m s v).log ≡ m.log
-  put_log m true v = refl
-  put_log m false v = refl
+  put_log m s v = grind arith
 
   pub put_sent : (m : Memory I) (s : Bool) (v : View I) → (put_seat m s v).sent ≡ m.sent
-  put_sent m true v = refl
-  put_sent m false v = refl
+  put_sent m s v = grind arith
 
   pub put_same : (m : Memory I) (s : Bool) → put_seat m s (seat m s) ≡ m
-  put_same m true = refl
-  put_same m false = refl
+  put_same m s = grind arith
 
   pub seat_relogged : (m : Memory I) (log : List Entry) (s : Bool) → seat (with_log m log) s ≡ seat m s
-  seat_relogged m log true = refl
-  seat_relogged m log false = refl
+  seat_relogged m log s = grind arith
 
   pub seat_kept : (m : Memory I) (log : List Entry) (sent : ℕ) (s : Bool) → seat (record { seat_0 = m.seat_0; seat_1 = m.seat_1; log = log; sent = sent }) s ≡ seat m s
-  seat_kept m log sent true = refl
-  seat_kept m log sent false = refl
+  seat_kept m log sent s = grind arith
 
   -- memories with the same parts
   pub same_memory : (x y : Memory I) (s : Bool) → seat x s ≡ seat y s → seat x (other s) ≡ seat y (other s) → x.log ≡ y.log → x.sent ≡ y.sent → x ≡ y
@@ -56,14 +47,10 @@ module _ {I : Type 0} where
 
 -- what a call adds to the log: nothing, or the record that it has sent
 pub joined_none : {X : Type 0} (log lent : List X) (sent after : ℕ) → after ≡ sent → log ++ drop sent (take after lent) ≡ log
-joined_none log lent sent after e =
-    let short = length-take after lent in
-    ap (λ xs. log ++ xs) (drop_all sent (take after lent) (omega arith)) ∙ append-nil log
+joined_none log lent sent after e = grind (arith, common_steps)
 
 pub joined_one : {X : Type 0} (log lent : List X) (sent after : ℕ) (d : X) → after ≡ sent + 1 → sent < length lent → log ++ drop sent (take after lent) ≡ log ++ get_or lent sent d ∷ []
-joined_one log lent sent after d e inside =
-    ap (λ n. log ++ drop sent (take n lent)) e
-    ∙ ap (λ xs. log ++ xs) (drop-take sent 1 lent ∙ ap (take 1) (drop_more lent sent d inside))
+joined_one log lent sent after d e inside = grind (arith, common_steps, drop-take, drop_more)
 
 module _ {I : Type 0} (r : Rules State I) (match_number : ℕ) where
   -- the log of a match that stands

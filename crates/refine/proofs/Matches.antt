@@ -93,8 +93,8 @@ module _ {I : Type 0} (a : Setup I) (lawful : Lawful a) (match_number : ℕ) (m 
   alone : (xs : List Step) → turns a m xs ≡ map (turn_of m) xs
   alone xs = turns_alone a lawful match_number [] m m xs ready (same_lent a lawful match_number m)
 
-  pub plays : GoesAsPlain a match_number m
-  plays =
+  pub goes : GoesAsPlain a match_number m
+  goes =
       record {
         stands = λ xs. (ready_after xs).stood;
         answers = λ xs x. (step_goes a match_number (turns a m xs) (through a m xs) x (ready_after xs) lawful).answers;
@@ -114,4 +114,4 @@ module _ {I : Type 0} (a : Setup I) (lawful : Lawful a) (match_number : ℕ) (m 
       }
 
 pub fresh_plays : {I : Type 0} (a : Setup I) → Lawful a → (match_number : ℕ) (x y : SlotLists I) (log : List Entry) → match_number < 2 ^ 16 → EnoughSlots 32 x → EnoughSlots 32 y → Roomy log → GoesAsPlain a match_number (opened a.opening match_number x y log)
-fresh_plays a lawful match_number x y log small hx hy roomy = plays a lawful match_number (opened a.opening match_number x y log) (record { stood = opening_stands_within a match_number x y log small hx hy; roomy = roomy })
+fresh_plays a lawful match_number x y log small hx hy roomy = goes a lawful match_number (opened a.opening match_number x y log) (record { stood = opening_stands_within a match_number x y log small hx hy; roomy = roomy })

@@ -1,8 +1,10 @@
 -- A whole list of steps on a fresh match.
-use Rattle.std.proofs.Common.{◌≡◌, ℕ, ◌<◌, ◌≤◌, min, Bool, true, false, cond, not, eqb, ltb, ◌⊎◌, List, [], ◌∷◌, ◌++◌, map, length, take, drop, Some, None, Option, sym, refl, ap, ◌∙◌, subst, inl, inr, ⊎_elim, arith, length-set}
+use Rattle.std.proofs.Common.{◌≡◌, ℕ, ◌≤◌, Bool, true, false, cond, not, eqb, ltb, List, [], ◌∷◌, ◌++◌, map, length, take, drop, Some, None, Option, sym, refl, ap, ◌∙◌, subst, ⊎_elim, arith}
 use Rattle.std.specs.List.{slice_get}
-use Rattle.std.proofs.lemmas.List.{append_assoc, append-nil, take-append-drop, take_all, take_at, length-take, length-append, length-drop, get_or-take}
-use Rattle.std.proofs.lemmas.Bool.{true≢false, cases_Bool, cases_lt, cond-true, cond-false, and_parts, and_from, not_from_false, eqb-true}
+use Rattle.std.proofs.lemmas.List.{append_assoc, append-nil, take-append-drop, take_all, take_at, length-take, get_or-take}
+use Rattle.std.proofs.lemmas.Bool.{cases_Bool, cond-true, cond-false, and_parts, eqb-true}
+use Rattle.std.proofs.lemmas.Bool.Decides.{nat_tests}
+use Rattle.std.proofs.lemmas.Grind.{common_steps}
 use Rattle.interface.specs.declared.answers.Refusal.{Refusal}
 use Rattle.plain.specs.Match.{Lent, Turn, Send, Take, turn, other, played, known, unless_refused, answered, run}
 use Rattle.plain.proofs.Steps.{run_more}
@@ -10,26 +12,18 @@ use Rattle.seat.specs.Views.{View, rightly_lent}
 use Rattle.seat.specs.Calls as calls
 use Rattle.refine.specs.Setup.{Setup, setting_of, rules, Lawful}
 use Rattle.refine.specs.Memory.{Entry, SlotLists, Memory, slots_of, with_slots, seat, put_seat, with_log, no_entry, entry, own_lent, fronts, joined, cut, own_part}
-use Rattle.refine.specs.Outcomes.{Call, Pressing, Sending, Taking, Outcome, outcome, numbered, check, made, result, lent, move}
+use Rattle.refine.specs.Outcomes.{Call, Pressing, Sending, Taking, outcome, numbered, check, made, result, lent, move}
 use Rattle.refine.specs.Standing.{SeatStands, Stands, well_brought, Brings, HasRoom, returned, GoesOn}
 use Rattle.refine.specs.Plays.{Step, Roomy}
 use Rattle.refine.specs.Matches.{brought, turn_of, step_result, next, through, told, tale, turns, plain_told, plain_tale}
 use Rattle.refine.proofs.Logging.{both, own_seat, other_seat, put_log, put_sent, seat_relogged, seat_kept, same_memory}
 use Rattle.refine.proofs.Results.{no_such_seat, bad_slots}
 use Rattle.refine.proofs.Calling.{goes_on}
-use Rattle.refine.proofs.Leaving.{Wrote, LogLeft, log_left, whole_again, roomy_again}
+use Rattle.refine.proofs.Leaving.{Left, log_left, left_long, whole_again, roomy_again}
 
 -- a call that is not well brought leaves all
 pub refused_left : {I : Type 0} (a : Setup I) (b : Memory I) (n : ℕ) (c : Call) → well_brought b n ≡ false → (result a b n c).left ≡ b
-refused_left a b n c wrong =
-    ⊎_elim
-    (λ high. ap (λ (o : Outcome _). o.left) (no_such_seat a b n c high))
-    (λ low.
-    ⊎_elim
-    (λ right. absurd (true≢false (sym (and_from _ _ (not_from_false _ low) right) ∙ wrong)))
-    (λ bad. ap (λ (o : Outcome _). o.left) (bad_slots a b n low c bad))
-    (cases_Bool (rightly_lent (seat b (numbered n)))))
-    (cases_Bool (ltb 1 n))
+refused_left a b n c wrong = grind (arith, nat_tests, no_such_seat, bad_slots)
 
 -- no call changes the seat that it is not of
 other_left : {I : Type 0} (a : Setup I) (b : Memory I) (n : ℕ) (c : Call) → seat (result a b n c).left (other (numbered n)) ≡ seat b (other (numbered n))
@@ -48,13 +42,7 @@ other_left a b n c = at c (check b n c)
 
 -- fronts of 32 are all the same
 front_own : {T : Type 0} (c : ℕ) (xs : List T) → eqb (length (take c xs)) 32 ≡ true → take c xs ≡ take 32 xs
-front_own c xs e =
-    let is = eqb-true _ _ e in
-    let short = length-take c xs in
-    ⊎_elim
-    (λ (high : length xs < c). take_all c xs (omega arith) ∙ sym (take_all 32 xs (omega arith)))
-    (λ (low : c ≤ length xs). let same : c ≡ 32 = omega arith in ap (λ k. take k xs) same)
-    (cases_lt (length xs) c)
+front_own c xs e = let is = eqb-true _ _ e in let short = length-take c xs in let all = take_all c xs in let all' = take_all 32 xs in grind arith
 
 cut_own : {I : Type 0} (l : Lent) (v : View I) → rightly_lent (cut l v) ≡ true → cut l v ≡ cut own_lent v
 cut_own l v e =
@@ -73,8 +61,7 @@ joined_fronts : {I : Type 0} (l : Lent) (x : SlotLists I) → joined l (fronts l
 joined_fronts l x i = record { own = take-append-drop l.own_slots x.own i; others = take-append-drop l.other_slots x.others i; digests = take-append-drop l.digest_slots x.digests i }
 
 pub seat_own : {I : Type 0} (m : Memory I) (t : Bool) → seat (own_part m) t ≡ cut own_lent (seat m t)
-seat_own m true = refl
-seat_own m false = refl
+seat_own m t = grind arith
 
 -- slots in the same numbers
 abbrev pub AllLong : {I : Type 0} → View I → View I → Type 0
@@ -89,7 +76,7 @@ lent_as : {I : Type 0} (m m' m'' : Memory I) → AsLent m m' → AsLent m' m'' �
 lent_as m m' m'' h k = record { seats = λ s. ((h.seats s).0 ∙ (k.seats s).0, (h.seats s).1 ∙ (k.seats s).1, (h.seats s).2 ∙ (k.seats s).2); log = h.log ∙ k.log }
 
 front_as : {T : Type 0} (c : ℕ) (xs ys : List T) → length xs ≡ length ys → length (take c xs) ≡ length (take c ys)
-front_as c xs ys e = length-take c xs ∙ ap (λ k. min c k) e ∙ sym (length-take c ys)
+front_as c xs ys e = grind (arith, common_steps)
 
 -- a turn is fixed by the numbers lent
 turn_as : {I : Type 0} (m m' : Memory I) (x : Step) → AsLent m m' → turn_of m x ≡ turn_of m' x
@@ -109,6 +96,38 @@ turn_as m m' x h =
     move_as m m' x e Sending = ap Send (front_as x.records m.log m'.log e)
     move_as m m' x e (Taking k) = ap (Take k) (front_as x.records m.log m'.log e)
 
+-- the parts of the match after a step
+module _ {I : Type 0} (a : Setup I) (m : Memory I) (x : Step) where
+  abbrev by : Bool
+  by = numbered x.number
+
+  abbrev left : Memory I
+  left = (step_result a m x).left
+
+  abbrev pub acting : View I
+  acting = with_slots (seat left by) (joined x.slots (slots_of (seat left by)) (slots_of (seat m by)))
+
+  abbrev pub waiting : View I
+  waiting = with_slots (seat left (other by)) (slots_of (seat m (other by)))
+
+  abbrev whole : List Entry
+  whole = left.log ++ drop x.records m.log
+
+  abbrev half : Memory I
+  half = put_seat (with_log left whole) (other by) waiting
+
+  pub next_acting : seat (next a m x) by ≡ acting
+  next_acting = own_seat half by acting
+
+  pub next_waiting : seat (next a m x) (other by) ≡ waiting
+  next_waiting = other_seat half by acting ∙ own_seat (with_log left whole) (other by) waiting
+
+  pub next_log : (next a m x).log ≡ whole
+  next_log = put_log half by acting ∙ put_log (with_log left whole) (other by) waiting
+
+  pub next_sent : (next a m x).sent ≡ left.sent
+  next_sent = put_sent half by acting ∙ put_sent (with_log left whole) (other by) waiting
+
 -- a match that stands, with all that the caller brought
 pub record Ready {I : Type 0} (a : Setup I) (match_number : ℕ) (ts : List Turn) (m : Memory I) : Type 0 where
   pub stood : Stands a match_number ts (own_part m)
@@ -125,8 +144,9 @@ module _ {I : Type 0} (a : Setup I) (match_number : ℕ) (ts : List Turn) (m : M
   b = brought m x
 
   brought_acting : seat b s ≡ cut x.slots (seat m s)
-  brought_acting = seat_relogged (put_seat (own_part m) s (cut x.slots (seat m s))) (take x.records m.log) s ∙ own_seat (own_part m) s (cut x.slots (seat m s))
+  brought_acting = grind arith
 
+  -- by hand, as grind stops at its limit here
   brought_other : seat b (other s) ≡ seat (own_part m) (other s)
   brought_other = seat_relogged (put_seat (own_part m) s (cut x.slots (seat m s))) (take x.records m.log) (other s) ∙ other_seat (own_part m) s (cut x.slots (seat m s))
 
@@ -134,14 +154,15 @@ module _ {I : Type 0} (a : Setup I) (match_number : ℕ) (ts : List Turn) (m : M
   brought_sent = put_sent (own_part m) s (cut x.slots (seat m s))
 
   enough : m.sent ≤ length m.log
-  enough = let e = ready.stood.all_logged in let l = length-take m.sent m.log in omega arith
+  enough = omega (arith, ready.stood.all_logged, length-take m.sent m.log)
+
+  rightly : well_brought b n ≡ true → rightly_lent (cut x.slots (seat m s)) ≡ true
+  rightly well = subst (λ w. rightly_lent w ≡ true) brought_acting (and_parts (not (ltb 1 n)) (rightly_lent (seat b s)) well).1
 
   pub step_brings : Brings (own_part m) b n
   step_brings =
       record {
-        own_slots = λ well.
-            let right = subst (λ w. rightly_lent w ≡ true) brought_acting (and_parts (not (ltb 1 n)) (rightly_lent (seat b s)) well).1 in
-            brought_acting ∙ cut_own x.slots (seat m s) right ∙ sym (seat_own m s);
+        own_slots = λ well. brought_acting ∙ cut_own x.slots (seat m s) (rightly well) ∙ sym (seat_own m s);
         same_seat =
             brought_acting
             ∙ ap (λ w. with_slots w (slots_of (cut x.slots (seat m s)))) (sym (seat_own m s))
@@ -156,20 +177,14 @@ module _ {I : Type 0} (a : Setup I) (match_number : ℕ) (ts : List Turn) (m : M
   step_room : (c : Call) → HasRoom b c
   step_room (Pressing code) = tt
   step_room (Taking k) = tt
-  step_room Sending = λ inside.
-      let short = length-take x.records m.log in
-      ap (λ (z : Entry). length z.bytes) (get_or-take x.records m.log b.sent no_entry (omega arith)) ∙ ready.roomy b.sent (omega arith)
+  step_room Sending = λ inside. let room = ready.roomy b.sent in grind (arith, get_or-take, length-take)
 
   module _ (lawful : Lawful a) where
     abbrev o : Memory I
     o = (step_result a m x).left
 
-    left_log : ((o.log ≡ take x.records m.log) × (o.sent ≡ m.sent)) ⊎ Wrote (take x.records m.log) o.log m.sent o.sent
-    left_log = at (log_left a b n x.call)
-      where
-        at : LogLeft b o → ((o.log ≡ take x.records m.log) × (o.sent ≡ m.sent)) ⊎ Wrote (take x.records m.log) o.log m.sent o.sent
-        at (inl (e, e')) = inl (e, e' ∙ brought_sent)
-        at (inr w) = inr (subst (λ k. Wrote (take x.records m.log) o.log k o.sent) brought_sent w)
+    left_log : Left (take x.records m.log) o.log m.sent o.sent
+    left_log = subst (λ k. Left (take x.records m.log) o.log k o.sent) brought_sent (log_left a b n x.call)
 
     pub step_goes : GoesOn a match_number ts (own_part m) b n x.call (step_result a m x)
     step_goes = goes_on a lawful match_number ts (own_part m) b n ready.stood step_brings x.call (step_room x.call)
@@ -177,102 +192,84 @@ module _ {I : Type 0} (a : Setup I) (match_number : ℕ) (ts : List Turn) (m : M
     abbrev log₁ : List Entry
     log₁ = take m.sent m.log ++ drop m.sent (take o.sent o.log)
 
+    still_stands : well_brought b n ≡ true → SeatStands (rules a) match_number (run (rules a) (ts ++ turn_of m x ∷ [])) s (seat o s)
+    still_stands well =
+        subst (λ w. SeatStands (rules a) match_number (run (rules a) (ts ++ turn_of m x ∷ [])) s w)
+        (own_seat (with_log o log₁) s (cond (well_brought b n) (seat o s) (seat (own_part m) s)) ∙ cond-true _ _ _ well)
+        (step_goes.stands.seats s)
+
+    untouched : well_brought b n ≡ false → seat o s ≡ cut x.slots (seat m s)
+    untouched wrong = ap (λ y. seat y s) (refused_left a b n x.call wrong) ∙ brought_acting
+
     -- the acting seat with its own slots, whether it was well brought or not
-    acting_after : cond (well_brought b n) (seat o s) (seat (own_part m) s) ≡ cut own_lent (with_slots (seat o s) (joined x.slots (slots_of (seat o s)) (slots_of (seat m s))))
+    pub acting_after : cond (well_brought b n) (seat o s) (seat (own_part m) s) ≡ cut own_lent (acting a m x)
     acting_after =
         ⊎_elim
         (λ (well : well_brought b n ≡ true).
-        let at = own_seat (with_log o log₁) s (cond (well_brought b n) (seat o s) (seat (own_part m) s)) ∙ cond-true _ _ _ well in
-        let held = subst (λ w. SeatStands (rules a) match_number (run (rules a) (ts ++ turn_of m x ∷ [])) s w) at (step_goes.stands.seats s) in
+        let held = still_stands well in
         let own = front_again (seat o s).own (drop x.slots.own_slots (seat m s).own) held.own_held.whole in
         let others = front_again (seat o s).others (drop x.slots.other_slots (seat m s).others) held.others_held.whole in
         let digests = front_again (seat o s).digests (drop x.slots.digest_slots (seat m s).digests) held.digests_held.whole in
         cond-true _ _ _ well ∙ sym (λ i. with_slots (seat o s) (record { own = own i; others = others i; digests = digests i })))
         (λ (wrong : well_brought b n ≡ false).
-        let is : seat o s ≡ cut x.slots (seat m s) = ap (λ y. seat y s) (refused_left a b n x.call wrong) ∙ brought_acting in
         cond-false _ _ _ wrong
         ∙ seat_own m s
         ∙ ap (λ y. cut own_lent (with_slots (seat m s) y)) (sym (joined_fronts x.slots (slots_of (seat m s))))
-        ∙ ap (λ w. cut own_lent (with_slots w (joined x.slots (slots_of w) (slots_of (seat m s))))) (sym is))
+        ∙ ap (λ w. cut own_lent (with_slots w (joined x.slots (slots_of w) (slots_of (seat m s))))) (sym (untouched wrong)))
         (cases_Bool (well_brought b n))
 
     -- the other with its own
-    waiting_after : seat o (other s) ≡ cut own_lent (with_slots (seat o (other s)) (slots_of (seat m (other s))))
+    pub waiting_after : seat o (other s) ≡ cut own_lent (waiting a m x)
     waiting_after =
         let is : seat o (other s) ≡ cut own_lent (seat m (other s)) = other_left a b n x.call ∙ brought_other ∙ seat_own m (other s) in
         is ∙ ap (λ w. cut own_lent (with_slots w (slots_of (seat m (other s))))) (sym is)
 
     same_after : returned (own_part m) b n o ≡ own_part (next a m x)
     same_after =
-        let log₂ = o.log ++ drop x.records m.log in
-        let w₁ = cond (well_brought b n) (seat o s) (seat (own_part m) s) in
-        let w₂ = with_slots (seat o s) (joined x.slots (slots_of (seat o s)) (slots_of (seat m s))) in
-        let w₃ = with_slots (seat o (other s)) (slots_of (seat m (other s))) in
-        let m₃ = put_seat (with_log o log₂) (other s) w₃ in
-        let m₂ = put_seat m₃ s w₂ in
-        same_memory (returned (own_part m) b n o) (own_part (next a m x)) s
-        (own_seat (with_log o log₁) s w₁ ∙ acting_after ∙ ap (cut own_lent) (sym (own_seat m₃ s w₂)) ∙ sym (seat_own m₂ s))
-        (other_seat (with_log o log₁) s w₁ ∙ seat_relogged o log₁ (other s) ∙ waiting_after ∙ ap (cut own_lent) (sym (other_seat m₃ s w₂ ∙ own_seat (with_log o log₂) (other s) w₃)) ∙ sym (seat_own m₂ (other s)))
-        (put_log (with_log o log₁) s w₁ ∙ whole_again m.log x.records m.sent o.sent o.log left_log ∙ ap (λ l. take o.sent l) (sym (put_log m₃ s w₂ ∙ put_log (with_log o log₂) (other s) w₃)) ∙ ap (λ k. take k m₂.log) (sym (put_sent m₃ s w₂ ∙ put_sent (with_log o log₂) (other s) w₃)))
-        (put_sent (with_log o log₁) s w₁ ∙ sym (put_sent m₃ s w₂ ∙ put_sent (with_log o log₂) (other s) w₃))
+        let w = cond (well_brought b n) (seat o s) (seat (own_part m) s) in
+        let m' = next a m x in
+        same_memory (returned (own_part m) b n o) (own_part m') s
+        (own_seat (with_log o log₁) s w ∙ acting_after ∙ ap (cut own_lent) (sym (next_acting a m x)) ∙ sym (seat_own m' s))
+        (other_seat (with_log o log₁) s w ∙ seat_relogged o log₁ (other s) ∙ waiting_after ∙ ap (cut own_lent) (sym (next_waiting a m x)) ∙ sym (seat_own m' (other s)))
+        (put_log (with_log o log₁) s w ∙ whole_again m.log x.records m.sent o.sent o.log left_log ∙ ap (take o.sent) (sym (next_log a m x)) ∙ ap (λ k. take k m'.log) (sym (next_sent a m x)))
+        (put_sent (with_log o log₁) s w ∙ sym (next_sent a m x))
 
     pub step_ready : Ready a match_number (ts ++ turn_of m x ∷ []) (next a m x)
     step_ready =
-        let log₂ = o.log ++ drop x.records m.log in
         record {
           stood = subst (λ y. Stands a match_number (ts ++ turn_of m x ∷ []) y) same_after step_goes.stands;
-          roomy = subst Roomy (sym (put_log (put_seat (with_log o log₂) (other s) _) s _ ∙ put_log (with_log o log₂) (other s) _)) (roomy_again m.log x.records m.sent o.sent o.log left_log ready.roomy);
+          roomy = subst Roomy (sym (next_log a m x)) (roomy_again m.log x.records m.sent o.sent o.log left_log ready.roomy);
         }
 
     -- the numbers of slots and records never change
 
     joined_long : {T : Type 0} (c : ℕ) (xs ys : List T) → length ys ≡ length (take c xs) → length (ys ++ drop c xs) ≡ length xs
-    joined_long c xs ys e = length-append ys (drop c xs) ∙ omega (arith, length-take c xs, length-drop c xs)
+    joined_long c xs ys e = grind (arith, common_steps)
 
-    acting_long : AllLong (seat (next a m x) s) (seat m s)
+    acting_long : AllLong (acting a m x) (seat m s)
     acting_long =
-        let log₂ = o.log ++ drop x.records m.log in
-        let w₂ = with_slots (seat o s) (joined x.slots (slots_of (seat o s)) (slots_of (seat m s))) in
-        let w₃ = with_slots (seat o (other s)) (slots_of (seat m (other s))) in
-        subst (λ w. AllLong w (seat m s)) (sym (own_seat (put_seat (with_log o log₂) (other s) w₃) s w₂))
-        (⊎_elim
+        ⊎_elim
         (λ (well : well_brought b n ≡ true).
-        let right = subst (λ w. rightly_lent w ≡ true) brought_acting (and_parts (not (ltb 1 n)) (rightly_lent (seat b s)) well).1 in
-        let p = and_parts _ _ right in
-        let q = and_parts _ _ p.0 in
-        let at = own_seat (with_log o log₁) s (cond (well_brought b n) (seat o s) (seat (own_part m) s)) ∙ cond-true _ _ _ well in
-        let held = subst (λ w. SeatStands (rules a) match_number (run (rules a) (ts ++ turn_of m x ∷ [])) s w) at (step_goes.stands.seats s) in (
+        let held = still_stands well in
+        let p = and_parts _ _ (rightly well) in
+        let q = and_parts _ _ p.0 in (
           joined_long x.slots.own_slots (seat m s).own (seat o s).own (held.own_held.whole ∙ sym (eqb-true _ _ q.0)),
           joined_long x.slots.other_slots (seat m s).others (seat o s).others (held.others_held.whole ∙ sym (eqb-true _ _ q.1)),
           joined_long x.slots.digest_slots (seat m s).digests (seat o s).digests (held.digests_held.whole ∙ sym (eqb-true _ _ p.1)),
         ))
         (λ (wrong : well_brought b n ≡ false).
-        let is : seat o s ≡ cut x.slots (seat m s) = ap (λ y. seat y s) (refused_left a b n x.call wrong) ∙ brought_acting in
-        let all = ap (λ w. joined x.slots (slots_of w) (slots_of (seat m s))) is ∙ joined_fronts x.slots (slots_of (seat m s)) in
+        let all = ap (λ w. joined x.slots (slots_of w) (slots_of (seat m s))) (untouched wrong) ∙ joined_fronts x.slots (slots_of (seat m s)) in
         (ap (λ (y : SlotLists I). length y.own) all, ap (λ (y : SlotLists I). length y.others) all, ap (λ (y : SlotLists I). length y.digests) all))
-        (cases_Bool (well_brought b n)))
-
-    waiting_long : AllLong (seat (next a m x) (other s)) (seat m (other s))
-    waiting_long =
-        let log₂ = o.log ++ drop x.records m.log in
-        let w₂ = with_slots (seat o s) (joined x.slots (slots_of (seat o s)) (slots_of (seat m s))) in
-        let w₃ = with_slots (seat o (other s)) (slots_of (seat m (other s))) in
-        subst (λ w. AllLong w (seat m (other s))) (sym (other_seat (put_seat (with_log o log₂) (other s) w₃) s w₂ ∙ own_seat (with_log o log₂) (other s) w₃)) (refl, refl, refl)
-
-    log_long : length (next a m x).log ≡ length m.log
-    log_long =
-        let log₂ = o.log ++ drop x.records m.log in
-        let w₂ = with_slots (seat o s) (joined x.slots (slots_of (seat o s)) (slots_of (seat m s))) in
-        let w₃ = with_slots (seat o (other s)) (slots_of (seat m (other s))) in
-        ap length (put_log (put_seat (with_log o log₂) (other s) w₃) s w₂ ∙ put_log (with_log o log₂) (other s) w₃)
-        ∙ joined_long x.records m.log o.log (at left_log)
-      where
-        at : ((o.log ≡ take x.records m.log) × (o.sent ≡ m.sent)) ⊎ Wrote (take x.records m.log) o.log m.sent o.sent → length o.log ≡ length (take x.records m.log)
-        at (inl (e, e')) = ap length e
-        at (inr w) = ap length w.put ∙ length-set (take x.records m.log) m.sent w.new
+        (cases_Bool (well_brought b n))
 
     pub as_lent : AsLent (next a m x) m
-    as_lent = record { seats = both (λ t. AllLong (seat (next a m x) t) (seat m t)) s acting_long waiting_long; log = log_long }
+    as_lent =
+        record {
+          seats = both (λ t. AllLong (seat (next a m x) t) (seat m t)) s
+              (subst (λ w. AllLong w (seat m s)) (sym (next_acting a m x)) acting_long)
+              (subst (λ w. AllLong w (seat m (other s))) (sym (next_waiting a m x)) (refl, refl, refl));
+          log = ap length (next_log a m x) ∙ joined_long x.records m.log o.log (left_long (take x.records m.log) o.log m.sent o.sent left_log);
+        }
 
 module _ {I : Type 0} (a : Setup I) (lawful : Lawful a) (match_number : ℕ) where
   pub all_ready : (ts : List Turn) (m : Memory I) (xs : List Step) → Ready a match_number ts m → Ready a match_number (ts ++ turns a m xs) (through a m xs)

@@ -1,6 +1,5 @@
 -- What the keepers list at the moments of a run, and the press that is never refused.
-use Rattle.std.proofs.Common.{◌≡◌, ℕ, ◌+◌, ◌-◌, ◌<◌, ◌≤◌, Bool, true, not, ltb, List, ◌++◌, Some, sym, ap, ◌∙◌, subst, arith}
-use Rattle.std.specs.List.{slice_get}
+use Rattle.std.proofs.Common.{◌≡◌, ℕ, ◌+◌, ◌<◌, ◌≤◌, Bool, true, not, ltb, List, ◌++◌, Some, sym, ◌∙◌, subst, arith}
 use Rattle.std.proofs.lemmas.Bool.{and_parts}
 use Rattle.interface.specs.Answers.{accepted}
 use Rattle.interface.specs.Games.{State}
@@ -8,7 +7,7 @@ use Rattle.interface.specs.Limits.{match_length, most_listed}
 use Rattle.plain.specs.Rules.{Rules}
 use Rattle.plain.specs.Match.{Plain, Turn, other, seat_number, run}
 use Rattle.plain.specs.Match as plain
-use Rattle.plain.specs.States.{truth, listed}
+use Rattle.plain.specs.States.{truth}
 use Rattle.plain.specs.Laws as laws
 use Rattle.plain.specs.Turns.{CaughtUp}
 use Rattle.plain.proofs.Confirming.{confirmed_hold, confirmed_is_true}
@@ -24,27 +23,23 @@ use Rattle.refine.proofs.Calling.{goes_on}
 
 module _ {I : Type 0} (r : Rules State I) (match_number : ℕ) (p : Plain I) (s : Bool) (v : View I) (h : SeatStands r match_number p s v) where
   same_confirmed : confirmed v ≡ plain.confirmed p s
-  same_confirmed = let a = h.its_played in let b = h.its_known in omega arith
+  same_confirmed = omega (arith, h.its_played, h.its_known)
 
   -- what the keeper lists, the plain match lists
   lists_plain : (n : ℕ) (x : State) → Lists v n x → laws.Lists r p s n x
-  lists_plain n x l =
-      let e = h.its_played in
-      let low = l.0 in
-      (omega arith, ap (λ k. slice_get (listed r p s) (k - n)) (sym e) ∙ ap (λ ss. slice_get ss (v.played - n)) (sym h.its_states) ∙ l.1)
+  lists_plain n x l = grind (arith, h.its_played, h.its_states)
 
   plain_lists : (n : ℕ) (x : State) → laws.Lists r p s n x → Lists v n x
-  plain_lists n x l =
-      let e = h.its_played in
-      let low = l.0 in
-      (omega arith, ap (λ ss. slice_get ss (v.played - n)) h.its_states ∙ ap (λ k. slice_get (listed r p s) (k - n)) e ∙ l.1)
+  plain_lists n x l = grind (arith, h.its_played, h.its_states)
 
 module _ {I : Type 0} (a : Setup I) (match_number : ℕ) (ts : List Turn) where
   abbrev r : Rules State I
   r = rules a
 
-  pub moments_of : (more : List Turn) (m m' : Memory I) → ((s : Bool) → SeatStands r match_number (run r ts) s (seat m s)) → ((s : Bool) → SeatStands r match_number (run r (ts ++ more)) s (seat m' s)) → Moments m m'
-  moments_of more m m' h h' =
+  pub moments : (more : List Turn) (m m' : Memory I) → Stands a match_number ts m → Stands a match_number (ts ++ more) m' → Moments m m'
+  moments more m m' g g' =
+      let h = g.seats in
+      let h' = g'.seats in
       let p = run r ts in
       let q = run r (ts ++ more) in
       let law = confirmed_hold r ts more in
@@ -56,9 +51,6 @@ module _ {I : Type 0} (a : Setup I) (match_number : ℕ) (ts : List Turn) where
         never_changes = λ s n x y l l'. law.lists_agree s s n x y (omega (arith, now s, l.0)) (omega (arith, now s, law.stays_confirmed s, l.0)) (lists_plain r match_number p s (seat m s) (h s) n x l.1) (lists_plain r match_number q s (seat m' s) (h' s) n y l');
         all_agree = λ s t n x y l l'. law.lists_agree s t n x y (omega (arith, now s, l.0)) (omega (arith, then t, l'.0)) (lists_plain r match_number p s (seat m s) (h s) n x l.1) (lists_plain r match_number q t (seat m' t) (h' t) n y l'.1);
       }
-
-  pub moments : (more : List Turn) (m m' : Memory I) → Stands a match_number ts m → Stands a match_number (ts ++ more) m' → Moments m m'
-  moments more m m' h h' = moments_of more m m' h.seats h'.seats
 
   pub lists_the_truth : (more : List Turn) (m m' : Memory I) → Stands a match_number ts m → Stands a match_number (ts ++ more) m' → (s t : Bool) (n : ℕ) (y : State) → n ≤ confirmed (seat m s) → ListsConfirmed (seat m' t) n y → y ≡ truth r (run r ts) n
   lists_the_truth more m m' h h' s t n y low l =

@@ -1,5 +1,5 @@
 -- A press leaves a seat that stands.
-use Rattle.std.proofs.Common.{◌≡◌, ℕ, suc, ◌+◌, ◌%◌, ◌<◌, Bool, List, [], ◌∷◌, ◌++◌, length, get_or, take, set, sym, refl, ap, ◌∙◌, subst, arith}
+use Rattle.std.proofs.Common.{◌≡◌, ℕ, suc, ◌+◌, ◌%◌, ◌<◌, Bool, List, [], ◌∷◌, ◌++◌, get_or, take, set, sym, refl, ap, ◌∙◌, subst, arith}
 use Rattle.std.proofs.lemmas.List.{take-take, get_or_push, get_or_append_left, length_push}
 use Rattle.interface.specs.Digest.{digest_of}
 use Rattle.interface.specs.Games.{State}
@@ -34,13 +34,13 @@ module _ {I : Type 0} (a : Setup I) (p : Plain I) (s : Bool) (x : I) where
   d = record { inputs = (side p s).inputs ++ x ∷ []; known_frames = known p s; acknowledged_frames = acknowledged p s }
 
   longer : played q s ≡ played p s + 1
-  longer = ap (λ (e : Side I). length e.inputs) (own_side p s d) ∙ length_push (side p s).inputs x
+  longer = grind (arith, length_push)
 
   pressed_before : (k : ℕ) → k < played p s → true_input r q s k ≡ true_input r p s k
-  pressed_before k low = ap (λ (e : Side I). get_or e.inputs k a.idle) (own_side p s d) ∙ get_or_append_left (side p s).inputs (x ∷ []) a.idle k low
+  pressed_before k low = grind (arith, get_or_append_left)
 
   pressed_new : true_input r q s (played p s) ≡ x
-  pressed_new = ap (λ (e : Side I). get_or e.inputs (played p s) a.idle) (own_side p s d) ∙ get_or_push (side p s).inputs x a.idle (played p s) refl
+  pressed_new = grind (arith, get_or_push)
 
   module _ (match_number : ℕ) (own others : List I) (digests : List ℕ) (counts : (t : Bool) → Counts p t) (holds : SlotsHold r match_number p s own others digests) where
     abbrev v : View I
@@ -56,10 +56,10 @@ module _ {I : Type 0} (a : Setup I) (p : Plain I) (s : Bool) (x : I) where
     others_grown = holds_same others (known p s) _ _ (λ k _. ap (λ (e : Side I). get_or e.inputs k a.idle) (other_side p s d)) holds.others_hold
 
     same_known : known p s ≡ known q s
-    same_known = sym (ap (λ (e : Side I). e.known_frames) (own_side p s d))
+    same_known = grind arith
 
     same_played : played q (other s) ≡ played p (other s)
-    same_played = ap (λ (e : Side I). length e.inputs) (other_side p s d)
+    same_played = grind arith
 
     fed : Fed a q s news (played p s)
     fed =

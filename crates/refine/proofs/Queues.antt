@@ -1,17 +1,17 @@
 -- What a queue holds, as frames are put.
-use Rattle.std.proofs.Common.{◌≡◌, ℕ, ◌+◌, ◌%◌, ◌<◌, ◌≤◌, List, length, set, Some, unwrap_or, sym, ap, ◌∙◌, ⊎_elim, arith, length-set}
+use Rattle.std.proofs.Common.{◌≡◌, ℕ, ◌+◌, ◌%◌, ◌<◌, ◌≤◌, List, length, set, Some, unwrap_or, sym, ap, ◌∙◌, arith, length-set}
 use Rattle.std.specs.List.{slice_get}
-use Rattle.std.proofs.lemmas.Bool.{cases_lt, cases_eq}
 use Rattle.std.proofs.lemmas.Bool.Decides.{nat_tests}
-use Rattle.interface.proofs.Slots.{nth_set_same, nth_set_other}
+use Rattle.std.proofs.lemmas.Grind.{common_steps}
+use Rattle.std.proofs.lemmas.Option.{gets}
 use Rattle.frames.specs.Queue.{held}
 use Rattle.rollback.specs.Inputs.{put_all}
 use Rattle.rollback.proofs.Fresh.{put_all_long, put_all_before, put_all_new, held_is}
 use Rattle.refine.specs.Standing.{Holds}
 
 module _ {T : Type 0} where
-  pub held_nth : (slots : List T) (next k : ℕ) → length slots ≡ 32 → k < next → next ≤ k + 32 → held slots next k ≡ slice_get slots (k % 32)
-  held_nth slots next k long low near = grind (arith, nat_tests)
+  pub held_slice_get : (slots : List T) (next k : ℕ) → length slots ≡ 32 → k < next → next ≤ k + 32 → held slots next k ≡ slice_get slots (k % 32)
+  held_slice_get slots next k long low near = grind (arith, nat_tests)
 
   -- slots in which the frames below n, of the 32 before top, have their values
   pub record Upto (slots : List T) (top n : ℕ) (f : ℕ → T) : Type 0 where
@@ -27,7 +27,7 @@ module _ {T : Type 0} where
       let long = h.whole in
       record {
         long = h.whole;
-        at = λ k low near. sym (held_nth slots next k long (omega arith) (omega arith)) ∙ h.values k (omega arith) (omega arith) ∙ ap Some (sym (same k low));
+        at = λ k low near. sym (held_slice_get slots next k long (omega arith) (omega arith)) ∙ h.values k (omega arith) (omega arith) ∙ ap Some (sym (same k low));
       }
 
   pub holds_same : (slots : List T) (next : ℕ) (f f' : ℕ → T) → ((k : ℕ) → k < next → f' k ≡ f k) → Holds slots next f → Holds slots next f'
@@ -41,10 +41,8 @@ module _ {T : Type 0} where
       record {
         long = omega arith;
         at = λ k low near.
-            ⊎_elim
-            (λ (e : k ≡ n). ap (λ j. slice_get (set slots (n % 32) x) (j % 32)) e ∙ nth_set_same slots (n % 32) x (omega arith) ∙ ap Some (is ∙ ap f (sym e)))
-            (λ e. nth_set_other slots (n % 32) (k % 32) x (λ h. omega arith) ∙ u.at k (omega arith) near)
-            (cases_eq k n);
+            let old = u.at k in
+            grind (arith, common_steps, gets);
       }
 
   -- and n of them, from the next on
@@ -57,10 +55,10 @@ module _ {T : Type 0} where
       (record {
         long = longer;
         at = λ k low near.
-            ⊎_elim
-            (λ below. put_all_before g slots next n k below near ∙ old.at k below (omega arith))
-            (λ above. put_all_new g slots next n k long few above low ∙ ap Some (new k above low))
-            (cases_lt k next);
+            let before = put_all_before g slots next n k in
+            let after = put_all_new g slots next n k long few in
+            let kept = old.at k in
+            grind (arith, new k);
       })
 
   -- what is held is read

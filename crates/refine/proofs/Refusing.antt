@@ -1,14 +1,12 @@
 -- What a refused call leaves, and which answers a match gives.
-use Rattle.std.proofs.Common.{◌≡◌, ℕ, ◌+◌, Bool, true, false, cond, not, eqb, ltb, leb, length, set, is_some, Some, None, Option, unwrap_or, refl, inl, inr, arith}
-use mathlib.Core.Bool.{beq}
-use Rattle.std.proofs.lemmas.Bool.{eqb-true, eqb-false}
+use Rattle.std.proofs.Common.{◌≡◌, ℕ, ◌+◌, Bool, cond, length, set, Some, None, Option, unwrap_or, refl, arith}
+use Rattle.std.proofs.lemmas.Bool.Decides.{nat_tests}
 use Rattle.interface.specs.declared.answers.Refusal.{Refusal}
-use Rattle.interface.specs.declared.answers.Refusal.TheVariants.{UnreadCode, MatchOver, TooFarAhead, Unacknowledged, NoSuchDatagram, LogFull, BadFrame, NoSuchSeat}
-use Rattle.interface.specs.Answers.{accepted, accepted_and_parted, number_of}
+use Rattle.interface.specs.Answers.{accepted, accepted_and_parted}
 use Rattle.datagram.specs.Layout.{bytes_of}
 use Rattle.datagram.specs.Reading.{read_of}
 use Rattle.plain.specs.Rules.{Rules}
-use Rattle.plain.specs.Match.{Plain, Turn, Move, Press, Send, Take, played, known, acknowledged, note, acting, answered, unless_refused, rightly_lent, move_refusal, answer}
+use Rattle.plain.specs.Match.{Plain, Turn, Move, Press, Send, Take, acting, answered, unless_refused, move_refusal, answer}
 use Rattle.plain.specs.Laws.{Counts}
 use Rattle.seat.specs.Calls as calls
 use Rattle.refine.specs.Setup.{Setup, setting_of}
@@ -24,8 +22,7 @@ KeptAll b o = (o.code ≡ accepted → ⊥) → (o.code ≡ accepted_and_parted 
 module _ {I : Type 0} (a : Setup I) (b : Memory I) where
   -- a take that no check refuses is answered 0 or 30
   taken_or_parted : (parted : Bool) → (cond parted accepted_and_parted accepted ≡ accepted → ⊥) → (cond parted accepted_and_parted accepted ≡ accepted_and_parted → ⊥) → ⊥
-  taken_or_parted true x y = y refl
-  taken_or_parted false x y = x refl
+  taken_or_parted parted x y = grind arith
 
   made_keeps : (s : Bool) (c : Call) → KeptAll b (made a b s c)
   made_keeps s (Pressing code) = at (calls.press_refusal (setting_of a s) (seat b s) code)
@@ -44,6 +41,7 @@ module _ {I : Type 0} (a : Setup I) (b : Memory I) where
       at None x y = absurd (taken_or_parted (calls.read_taken (setting_of a s) (seat b s) (read_of (datagram (entry b k)))).parted x y)
       at (Some why) x y = (put_same b s, refl)
 
+  -- by hand, as grind stops at its limit here
   pub refused_keeps : (n : ℕ) (c : Call) → KeptAll b (result a b n c)
   unfolding result
   refused_keeps n c = at (check b n c)
@@ -57,28 +55,11 @@ module _ {I : Type 0} (a : Setup I) (b : Memory I) where
 abbrev Usual : ℕ → Type 0
 Usual n = OneOf match_answers n
 
-row : (b : Bool) (why : Refusal) (o : Option Refusal) → (b ≡ true → Usual (number_of why)) → (b ≡ false → Usual (answered o)) → Usual (answered (cond b (Some why) o))
-row true why o here below = here refl
-row false why o here below = below refl
-
 module _ {S I : Type 0} (r : Rules S I) where
   move_usual : (p : Plain I) (s : Bool) (m : Move) → Counts p s → Usual (answered (move_refusal r p s m))
-  move_usual p s (Press code) h =
-      let P = played p s in
-      row (not (is_some (r.reads code))) UnreadCode _ (λ _. inr (inl refl))
-      (λ _. row (eqb P 60000) MatchOver _ (λ _. inr (inr (inl refl)))
-      (λ _. row (eqb P (known p s + 8)) TooFarAhead _ (λ _. inr (inr (inr (inl refl))))
-      (λ far. row (eqb P (acknowledged p s + 32)) Unacknowledged None (λ full. absurd (omega (arith, eqb-false _ _ far, eqb-true _ _ full)))
-      (λ _. inl refl))))
-  move_usual p s (Send records) h = row (leb records (length p.notes)) LogFull None (λ _. inr (inr (inr (inr (inr (inl refl)))))) (λ _. inl refl)
-  move_usual p s (Take k records) h =
-      row (leb records k) NoSuchDatagram _ (λ _. inr (inr (inr (inr (inl refl)))))
-      (λ _. row (leb (length p.notes) k) NoSuchDatagram _ (λ _. inr (inr (inr (inr (inl refl)))))
-      (λ _. row (beq (note p k).sender s) NoSuchDatagram None (λ _. inr (inr (inr (inr (inl refl)))))
-      (λ _. inl refl)))
+  move_usual p s (Press code) h = grind (arith, nat_tests)
+  move_usual p s (Send records) h = grind (arith, nat_tests)
+  move_usual p s (Take k records) h = grind (arith, nat_tests)
 
   pub usual : (p : Plain I) (t : Turn) → ((s : Bool) → Counts p s) → Usual (answer r p t)
-  usual p t h =
-      row (ltb 1 t.seat) NoSuchSeat _ (λ _. inr (inr (inr (inr (inr (inr (inr (inl refl))))))))
-      (λ _. row (not (rightly_lent t.slots)) BadFrame _ (λ _. inr (inr (inr (inr (inr (inr (inl refl)))))))
-      (λ _. move_usual p (acting t) t.move (h (acting t))))
+  usual p t h = let rest = move_usual p (acting t) t.move (h (acting t)) in grind (arith, nat_tests)

@@ -1,40 +1,38 @@
 -- What a call's result is, as code comes by it: a check that fails, or the seat's own call.
-use Rattle.std.proofs.Common.{◌≡◌, ℕ, ◌+◌, Bool, true, false, not, ltb, ◌⊎◌, List, length, set, Some, None, Option, unwrap_or, sym, refl, ap, ◌∙◌, inl, inr, ⊎_elim, arith}
-use Rattle.std.proofs.lemmas.Bool.{cases_Bool, cond-true, cond-false, not_from_true, not_from_false}
+use Rattle.std.proofs.Common.{◌≡◌, ℕ, ◌+◌, Bool, true, false, ltb, length, set, Some, None, sym, ap, ◌∙◌, arith}
 use Rattle.interface.specs.declared.answers.Refusal.{Refusal}
 use Rattle.interface.specs.declared.answers.Refusal.TheVariants.{BadFrame, NoSuchSeat}
 use Rattle.interface.specs.Answers.{accepted, number_of}
 use Rattle.datagram.specs.Layout.{bytes_of}
 use Rattle.plain.specs.Match.{other, answered, unless_refused}
-use Rattle.plain.proofs.Steps.{above_0}
 use Rattle.rollback.specs.Inputs.{Setting}
 use Rattle.seat.specs.Views.{View, rightly_lent}
 use Rattle.seat.specs.Calls as calls
 use Rattle.refine.specs.Setup.{Setup, setting_of}
 use Rattle.refine.specs.Memory.{Entry, Memory, seat, put_seat, entry, datagram}
 use Rattle.refine.specs.Outcomes.{Call, Pressing, Sending, Taking, outcome, numbered, log_check, check, written, appended, made, result}
-use Rattle.refine.proofs.Logging.{own_seat, other_seat, put_log, put_sent, put_same, seat_kept, same_memory}
+use Rattle.refine.proofs.Logging.{put_same, seat_kept, same_memory}
 
 module _ {I : Type 0} (a : Setup I) (b : Memory I) (n : ℕ) where
   pub result_refused : (c : Call) (why : Refusal) → check b n c ≡ Some why → result a b n c ≡ outcome b (number_of why) 0
   unfolding result
-  result_refused c why e = ap (λ o. unless_refused o (outcome b (answered o) 0) (made a b (numbered n) c)) e
+  result_refused c why e = grind arith
 
   pub result_made : (c : Call) → check b n c ≡ None → result a b n c ≡ made a b (numbered n) c
   unfolding result
-  result_made c e = ap (λ o. unless_refused o (outcome b (answered o) 0) (made a b (numbered n) c)) e
+  result_made c e = grind arith
 
   -- 21
   pub no_such_seat : (c : Call) → ltb 1 n ≡ true → result a b n c ≡ outcome b (number_of NoSuchSeat) 0
-  no_such_seat c e = result_refused c NoSuchSeat (cond-true _ _ _ e)
+  no_such_seat c e = result_refused c NoSuchSeat (grind arith)
 
   module _ (is_seat : ltb 1 n ≡ false) where
     -- 20
     pub bad_slots : (c : Call) → rightly_lent (seat b (numbered n)) ≡ false → result a b n c ≡ outcome b (number_of BadFrame) 0
-    bad_slots c wrong = result_refused c BadFrame (cond-false _ _ _ is_seat ∙ cond-true _ _ _ (not_from_false _ wrong))
+    bad_slots c wrong = result_refused c BadFrame (grind arith)
 
     pub check_log : (c : Call) → rightly_lent (seat b (numbered n)) ≡ true → check b n c ≡ log_check b (numbered n) c
-    check_log c right = cond-false _ _ _ is_seat ∙ cond-false _ _ _ (not_from_true _ right)
+    check_log c right = grind arith
 
     -- a press is all the seat's: it checks its slots itself
     pub press_by_seat : (code : ℕ) → result a b n (Pressing code) ≡ made a b (numbered n) (Pressing code)
@@ -42,43 +40,11 @@ module _ {I : Type 0} (a : Setup I) (b : Memory I) (n : ℕ) where
         let s = numbered n in
         let v = seat b s in
         let g = setting_of a s in
-        ⊎_elim
-        (λ right. result_made (Pressing code) (check_log (Pressing code) right))
-        (λ (wrong : rightly_lent (seat b (numbered n)) ≡ false).
-        let refuses : calls.press_refusal g v code ≡ Some BadFrame = cond-false _ _ _ wrong in
-        let leaves : calls.press_leaves g v code ≡ v = ap (λ o. unless_refused o v (calls.pressed g v (unwrap_or (a.reads code) a.idle))) refuses in
-        bad_slots (Pressing code) wrong
-        ∙ sym
-        (ap (λ w. outcome (put_seat b s w) (calls.press_answer g v code) 0) leaves
-        ∙ ap (λ m. outcome m (calls.press_answer g v code) 0) (put_same b s)
-        ∙ ap (λ o. outcome b (answered o) 0) refuses))
-        (cases_Bool (rightly_lent (seat b (numbered n))))
+        let slots = bad_slots (Pressing code) in
+        let passed = result_made (Pressing code) in
+        grind (arith, check_log (Pressing code), put_same)
 
 -- What code has to show of what it left, o, and answered: part by part.
-
--- the seat's answer to a send tells whether it was refused
-send_told : {I : Type 0} (g : Setting I) (v : View I) (bytes : List ℕ) → (calls.send_refusal g v bytes ≡ None) ⊎ ((why : Refusal) × (calls.send_refusal g v bytes ≡ Some why))
-send_told g v bytes = at (calls.send_refusal g v bytes) refl
-  where
-    at : (o : Option Refusal) → calls.send_refusal g v bytes ≡ o → (calls.send_refusal g v bytes ≡ None) ⊎ ((why : Refusal) × (calls.send_refusal g v bytes ≡ Some why))
-    at None e = inl e
-    at (Some why) e = inr (why, e)
-
-pub send_accepted : {I : Type 0} (g : Setting I) (v : View I) (bytes : List ℕ) → (calls.send_answer g v bytes).0 ≡ accepted → calls.send_refusal g v bytes ≡ None
-send_accepted g v bytes told =
-    ⊎_elim
-    (λ e. e)
-    (λ refused.
-    let is = ap (λ o. (unless_refused {X = ℕ × ℕ} o (answered o, 0) (accepted, length (bytes_of (calls.to_send g v)))).0) refused.1 in
-    absurd (omega (arith, above_0 refused.0, sym is ∙ told)))
-    (send_told g v bytes)
-
-pub send_refused : {I : Type 0} (g : Setting I) (v : View I) (bytes : List ℕ) → ((calls.send_answer g v bytes).0 ≡ accepted → ⊥) → (why : Refusal) × (calls.send_refusal g v bytes ≡ Some why)
-send_refused g v bytes told =
-    ⊎_elim
-    (λ e. absurd (told (ap (λ o. (unless_refused {X = ℕ × ℕ} o (answered o, 0) (accepted, length (bytes_of (calls.to_send g v)))).0) e)))
-    (λ refused. refused)
-    (send_told g v bytes)
 
 module _ {I : Type 0} (a : Setup I) (b : Memory I) (n : ℕ) (is_seat : ltb 1 n ≡ false) (o : Memory I) (same_other : seat o (other (numbered n)) ≡ seat b (other (numbered n))) where
   abbrev s : Bool
@@ -89,7 +55,7 @@ module _ {I : Type 0} (a : Setup I) (b : Memory I) (n : ℕ) (is_seat : ltb 1 n 
 
   -- the acting seat alone has changed
   put_is : (v : View I) → seat o s ≡ v → o.log ≡ b.log → o.sent ≡ b.sent → o ≡ put_seat b s v
-  put_is v acting log sent = same_memory o (put_seat b s v) s (acting ∙ sym (own_seat b s v)) (same_other ∙ sym (other_seat b s v)) (log ∙ sym (put_log b s v)) (sent ∙ sym (put_sent b s v))
+  put_is v acting log sent = grind (arith, same_memory)
 
   pub press_result : (code answer : ℕ) → seat o s ≡ calls.press_leaves g (seat b s) code → o.log ≡ b.log → o.sent ≡ b.sent → answer ≡ calls.press_answer g (seat b s) code → outcome o answer 0 ≡ result a b n (Pressing code)
   press_result code answer acting log sent told =
@@ -115,18 +81,19 @@ module _ {I : Type 0} (a : Setup I) (b : Memory I) (n : ℕ) (is_seat : ltb 1 n 
       sending = result_made a b n Sending (check_log a b n is_seat Sending right ∙ free)
 
       -- the seat wrote its datagram
-      pub send_result : (calls.send_answer g (seat b s) e.bytes).0 ≡ accepted → o.log ≡ set b.log b.sent (written a (seat b s) s e) → o.sent ≡ b.sent + 1 → outcome o accepted 0 ≡ result a b n Sending
-      send_result told log sent =
+      pub send_result : calls.send_refusal g (seat b s) e.bytes ≡ None → o.log ≡ set b.log b.sent (written a (seat b s) s e) → o.sent ≡ b.sent + 1 → outcome o accepted 0 ≡ result a b n Sending
+      send_result none log sent =
+          let told : (calls.send_answer g (seat b s) e.bytes).0 ≡ accepted = ap (λ x. (unless_refused {X = ℕ × ℕ} x (answered x, 0) (accepted, length (bytes_of (calls.to_send g (seat b s))))).0) none in
           let b' : Memory I = record { seat_0 = b.seat_0; seat_1 = b.seat_1; log = set b.log b.sent (written a (seat b s) s e); sent = b.sent + 1 } in
           let kept = λ (t : Bool). seat_kept b (set b.log b.sent (written a (seat b s) s e)) (b.sent + 1) t in
           let is : o ≡ b' = same_memory o b' s (acting ∙ sym (kept s)) (same_other ∙ sym (kept (other s))) log sent in
-          let added : appended a b s ≡ b' = ap (λ x. unless_refused x b b') (send_accepted g (seat b s) e.bytes told) in
+          let added : appended a b s ≡ b' = ap (λ x. unless_refused x b b') none in
           ap (λ x. outcome x accepted 0) (is ∙ sym added) ∙ ap (λ k. outcome (appended a b s) k 0) (sym told) ∙ sym sending
 
       -- or it did not, and all is as it was
-      pub send_result_refused : (answer : ℕ) → answer ≡ (calls.send_answer g (seat b s) e.bytes).0 → (answer ≡ accepted → ⊥) → o.log ≡ b.log → o.sent ≡ b.sent → outcome o answer 0 ≡ result a b n Sending
-      send_result_refused answer told not log sent =
-          let refused = send_refused g (seat b s) e.bytes (λ x. not (told ∙ x)) in
+      pub send_result_refused : (why : Refusal) (answer : ℕ) → calls.send_refusal g (seat b s) e.bytes ≡ Some why → answer ≡ number_of why → o.log ≡ b.log → o.sent ≡ b.sent → outcome o answer 0 ≡ result a b n Sending
+      send_result_refused why answer refused number log sent =
+          let told : answer ≡ (calls.send_answer g (seat b s) e.bytes).0 = number ∙ sym (ap (λ x. (unless_refused {X = ℕ × ℕ} x (answered x, 0) (accepted, length (bytes_of (calls.to_send g (seat b s))))).0) refused) in
           let b' : Memory I = record { seat_0 = b.seat_0; seat_1 = b.seat_1; log = set b.log b.sent (written a (seat b s) s e); sent = b.sent + 1 } in
-          let stays : appended a b s ≡ b = ap (λ x. unless_refused x b b') refused.1 in
+          let stays : appended a b s ≡ b = ap (λ x. unless_refused x b b') refused in
           ap (λ x. outcome x answer 0) (same_memory o b s acting same_other log sent ∙ sym stays) ∙ ap (λ k. outcome (appended a b s) k 0) told ∙ sym sending

@@ -1,5 +1,5 @@
 -- A seat that stands, whole, and one that a turn of the other leaves.
-use Rattle.std.proofs.Common.{◌≡◌, ℕ, ◌+◌, Bool, true, false, List, length, get_or, take, sym, refl, ap, ◌∙◌, subst, arith}
+use Rattle.std.proofs.Common.{◌≡◌, ℕ, ◌+◌, Bool, false, List, length, get_or, take, sym, ap, ◌∙◌, arith}
 use Rattle.interface.specs.Digest.{digest_of}
 use Rattle.interface.specs.Games.{State}
 use Rattle.interface.specs.Limits.{most_listed}
@@ -15,12 +15,10 @@ use Rattle.refine.proofs.Queues.{holds_same}
 
 module _ {I : Type 0} where
   pub own_side : (p : Plain I) (s : Bool) (d : Side I) → side (put p s d) s ≡ d
-  own_side p true d = refl
-  own_side p false d = refl
+  own_side p s d = grind arith
 
   pub other_side : (p : Plain I) (s : Bool) (d : Side I) → side (put p s d) (other s) ≡ side p (other s)
-  other_side p true d = refl
-  other_side p false d = refl
+  other_side p s d = grind arith
 
 module _ {I : Type 0} (r : Rules State I) (match_number : ℕ) where
   -- a seat that stands, with these slots
@@ -37,17 +35,11 @@ module _ {I : Type 0} (r : Rules State I) (match_number : ℕ) where
     pub digests_hold : Holds digests (played p s + 1) (λ n. digest_of (plain_state r p s n))
 
   pub slots_hold : (p : Plain I) (s : Bool) (v : View I) → SeatStands r match_number p s v → SlotsHold p s v.own v.others v.digests
-  slots_hold p s v h =
-      record {
-        own_hold = subst (λ n. Holds v.own n (true_input r p s)) h.its_played h.own_held;
-        others_hold = subst (λ n. Holds v.others n (true_input r p (other s))) h.its_known h.others_held;
-        digests_hold = subst (λ n. Holds v.digests (n + 1) (λ n. digest_of (plain_state r p s n))) h.its_played h.digests_held;
-      }
+  slots_hold p s v h = grind arith
 
   -- what is left by moves that change nothing of the seat
   pub still_stands : (p q : Plain I) (t : Bool) (v : View I) → side q t ≡ side p t → Grown p q → Counts p t → ((n : ℕ) → plain_state r q t n ≡ plain_state r p t n) → SeatStands r match_number p t v → SeatStands r match_number q t v
   still_stands p q t v same grown counts states h =
-      let known_e = h.its_known in
       record {
         its_seat = h.its_seat;
         its_number = h.its_number;

@@ -2,7 +2,7 @@
 use Rattle.std.proofs.Common.{◌≡◌, ℕ, ◌+◌, ◌-◌, ◌≤◌, Bool, true, false, List, ◌++◌, length, take, drop, None, unwrap_or, sym, refl, ap, ◌∙◌, arith}
 use Rattle.std.proofs.lemmas.List.FromFn.{length-map-range_with_len}
 use Rattle.std.proofs.lemmas.List.{take_at}
-use Rattle.std.proofs.lemmas.Bool.{cond-true, cond-false, le-ltb}
+use Rattle.std.proofs.lemmas.Bool.{le-ltb}
 use Rattle.std.proofs.lemmas.Bool.Decides.{nat_tests}
 use Rattle.interface.specs.Answers.{accepted}
 use Rattle.interface.specs.Digest.{digest_of}
@@ -10,10 +10,10 @@ use Rattle.interface.specs.Games.{State}
 use Rattle.frames.specs.Queue.{held}
 use Rattle.datagram.specs.Fields.{Fields}
 use Rattle.datagram.specs.Layout.{bytes_of}
-use Rattle.datagram.specs.Writing.{too_short, write_leaves}
+use Rattle.datagram.specs.Writing.{too_short}
 use Rattle.datagram.proofs.Readings.{length_bytes}
 use Rattle.plain.specs.Rules.{Rules}
-use Rattle.plain.specs.Match.{Plain, Note, played, known, acknowledged, confirmed, seat_number, answered, unless_refused, noted}
+use Rattle.plain.specs.Match.{Plain, Note, played, known, acknowledged, confirmed, seat_number, noted}
 use Rattle.plain.specs.States.{true_input, plain_state}
 use Rattle.plain.specs.Laws.{Counts}
 use Rattle.plain.proofs.Confirming.{confirmed_is_true}
@@ -32,11 +32,7 @@ abbrev pub new_note : {I : Type 0} → Plain I → Bool → Note
 new_note p s = record { sender = s; start = acknowledged p s; end = played p s; acknowledgement = known p s }
 
 fields_noted : {I : Type 0} (r : Rules State I) (match_number : ℕ) (p : Plain I) (s : Bool) → fields_of r match_number (noted p s) (new_note p s) ≡ fields_of r match_number p (new_note p s)
-fields_noted r match_number p true = refl
-fields_noted r match_number p false = refl
-
-pub slots_whole : {I : Type 0} (own others : List I) (digests : List ℕ) (v : View I) → v.own ≡ own → v.others ≡ others → v.digests ≡ digests → length own ≡ 32 → length others ≡ 32 → length digests ≡ 32 → rightly_lent v ≡ true
-slots_whole own others digests v a b c d e f = grind (arith, nat_tests)
+fields_noted r match_number p s = grind arith
 
 module _ {I : Type 0} (a : Setup I) (p : Plain I) (s : Bool) (match_number : ℕ) (own others : List I) (digests : List ℕ) (counts : (t : Bool) → Counts p t) (holds : SlotsHold (rules a) match_number p s own others digests) where
   abbrev r : Rules State I
@@ -59,31 +55,23 @@ module _ {I : Type 0} (a : Setup I) (p : Plain I) (s : Bool) (match_number : ℕ
       λ i. record { sender = seat_number s; match_number = match_number; start = A; codes = codes i; acknowledgement = known p s; report_frame = C; digest = digest i }
 
   pub stood_whole : rightly_lent v ≡ true
-  stood_whole = slots_whole own others digests v refl refl refl holds.own_hold.whole holds.others_hold.whole holds.digests_hold.whole
+  stood_whole = grind (arith, nat_tests)
 
   short : length (bytes_of f) ≤ 53
-  short =
-      let c = counts s in
-      let few = length-map-range_with_len (λ k. a.code (true_input r p s k)) (acknowledged p s) (played p s - acknowledged p s) in
-      omega (arith, length_bytes f, few)
+  short = let few = length-map-range_with_len (λ k. a.code (true_input r p s k)) (acknowledged p s) (played p s - acknowledged p s) in omega (arith, counts s, length_bytes f)
 
   module _ (bytes : List ℕ) (room : 53 ≤ length bytes) where
     not_short : too_short (to_send (setting_of a s) v) bytes ≡ false
     not_short = ap (λ d. too_short d bytes) to_send_same ∙ le-ltb _ _ (omega (arith, short))
 
     pub send_passes : send_refusal (setting_of a s) v bytes ≡ None
-    send_passes = cond-true _ _ _ stood_whole ∙ cond-false _ _ _ not_short
+    send_passes = grind (arith, stood_whole, not_short)
 
     pub send_answers : send_answer (setting_of a s) v bytes ≡ (accepted, length (bytes_of f))
-    send_answers =
-        ap (λ o. unless_refused o (answered o, 0) (accepted, length (bytes_of (to_send (setting_of a s) v)))) send_passes
-        ∙ ap (λ d. (accepted, length (bytes_of d))) to_send_same
+    send_answers = grind (arith, send_passes, to_send_same)
 
     send_writes : send_leaves (setting_of a s) v bytes ≡ bytes_of f ++ drop (length (bytes_of f)) bytes
-    send_writes =
-        ap (λ o. unless_refused o bytes (write_leaves (to_send (setting_of a s) v) bytes)) send_passes
-        ∙ cond-false _ _ _ not_short
-        ∙ ap (λ d. bytes_of d ++ drop (length (bytes_of d)) bytes) to_send_same
+    send_writes = grind (arith, send_passes, not_short, to_send_same)
 
   -- the record that it writes
   pub written_sent : (e : Entry) → 53 ≤ length e.bytes → Sent r match_number (noted p s) (new_note p s) (written a v s e)

@@ -1,9 +1,8 @@
 -- A take of a datagram of the other seat leaves a seat that stands.
-use Rattle.std.proofs.Common.{◌≡◌, ℕ, zero, suc, ◌+◌, ◌-◌, ◌<◌, ◌≤◌, max, Bool, true, false, cond, not, ◌&&◌, ◌||◌, ltb, leb, List, [], ◌∷◌, map, length, get_or, take, drop, is_some, Some, None, Ok, unwrap_or, sym, refl, ap, ◌∙◌, subst, ⊎_elim, arith}
+use Rattle.std.proofs.Common.{◌≡◌, ℕ, zero, suc, ◌+◌, ◌-◌, ◌<◌, ◌≤◌, max, min, Bool, true, false, cond, List, [], ◌∷◌, map, length, take, drop, None, Ok, unwrap_or, sym, refl, ap, ◌∙◌, subst, arith}
 use Rattle.std.specs.List.{range_with_len}
 use Rattle.std.proofs.lemmas.List.FromFn.{length-map-range_with_len, get_or-map-range_with_len}
-use Rattle.std.proofs.lemmas.Bool.{cases_lt, cases_Bool, cond-true, cond-false, lt-ltb, le-ltb, leb-true, eq-eqb, and_left, and_right, or_from}
-use Rattle.interface.specs.declared.answers.Refusal.TheVariants.{NotOurs, UnreadCode, StartTooLate, EndTooLate, AcknowledgementTooLate, ReportTooLate}
+use Rattle.std.proofs.lemmas.Bool.Decides.{nat_tests}
 use Rattle.interface.specs.Answers.{accepted, accepted_and_parted}
 use Rattle.interface.specs.Digest.{digest_of}
 use Rattle.interface.specs.Games.{State}
@@ -13,8 +12,8 @@ use Rattle.datagram.specs.Layout.{bytes_of}
 use Rattle.datagram.specs.Reading.{read_of}
 use Rattle.datagram.proofs.Readings.{read_back}
 use Rattle.plain.specs.Rules.{Rules}
-use Rattle.plain.specs.Match.{Side, Plain, Note, other, side, played, known, acknowledged, seat_number, answered, unless_refused, taken}
-use Rattle.plain.specs.States.{true_input, other_input, plain_state, truth, down_from, listed, first_difference, lowest_change}
+use Rattle.plain.specs.Match.{Side, Plain, Note, other, side, played, known, acknowledged, answered, unless_refused, taken}
+use Rattle.plain.specs.States.{true_input, other_input, plain_state, down_from, listed, first_difference, lowest_change}
 use Rattle.plain.specs.Laws.{Counts, Welcome, report}
 use Rattle.plain.proofs.Growth.{Grown}
 use Rattle.plain.proofs.Counting.{acknowledged_at_most_played}
@@ -30,28 +29,28 @@ use Rattle.refine.specs.Setup.{Setup, rules, setting_of, Lawful}
 use Rattle.refine.specs.Standing.{Holds, SeatStands, fields_of}
 use Rattle.refine.proofs.Queues.{upto_holds, holds_upto, holds_same, holds_reads, holds_put_all}
 use Rattle.refine.proofs.Frames.{other_same, Fed, Midway, all_frames}
-use Rattle.refine.proofs.Seats.{own_side, other_side, stood, SlotsHold}
+use Rattle.refine.proofs.Seats.{own_side, stood, SlotsHold}
 
 -- the search sees the inputs alone
 first_same : (f g f' g' : ℕ → ℕ) (k n : ℕ) → ((i : ℕ) → k ≤ i → i < k + n → f i ≡ f' i) → ((i : ℕ) → k ≤ i → i < k + n → g i ≡ g' i) → first_difference f g k n ≡ first_difference f' g' k n
 first_same f g f' g' k zero a b = refl
-first_same f g f' g' k (suc n) a b =
-    let x = a k (omega arith) (omega arith) in
-    let y = b k (omega arith) (omega arith) in
-    let rest = first_same f g f' g' (k + 1) n (λ i low high. a i (omega arith) (omega arith)) (λ i low high. b i (omega arith) (omega arith)) in
-    cc
+first_same f g f' g' k (suc n) a b = let rest = first_same f g f' g' (k + 1) n in grind (arith, nat_tests, a k, b k)
+
+-- and need not look at what is the same
+skips : (f g : ℕ → ℕ) (n k : ℕ) → ((i : ℕ) → i < k → f i ≡ g i) → n - first_difference f g k (n - k) ≡ n - first_difference f g 0 n
+skips f g n k same =
+    let all : min n k + (n - k) ≡ n = omega arith in
+    let skipped = search_skips f g 0 (min n k) (n - k) (λ i _ low. same i (omega arith)) in
+    let start : 0 + min n k ≡ min n k = omega arith in
+    grind (arith, nat_tests)
 
 all_reads : {I : Type 0} (a : Setup I) → Lawful a → (f : ℕ → I) (ks : List ℕ) → calls.all_read a.reads (map (λ k. a.code (f k)) ks) ≡ true
 all_reads a lawful f [] = refl
-all_reads a lawful f (k ∷ ks) = ap (λ o. is_some o && calls.all_read a.reads (map (λ k. a.code (f k)) ks)) (lawful.reads_back (f k)) ∙ all_reads a lawful f ks
+all_reads a lawful f (k ∷ ks) = let rest = all_reads a lawful f ks in grind (arith, lawful.reads_back (f k))
 
 -- a note, if it is the other seat's
 abbrev pub by_other : Bool → Note → Note
 by_other s n = record { sender = other s; start = n.start; end = n.end; acknowledgement = n.acknowledgement }
-
-truth_taken : {I : Type 0} (r : Rules State I) (p : Plain I) (s : Bool) (n : Note) (m : ℕ) → truth r (taken p s n) m ≡ truth r p m
-truth_taken r p true n m = refl
-truth_taken r p false n m = refl
 
 module _ {I : Type 0} (a : Setup I) (lawful : Lawful a) (p : Plain I) (s : Bool) (match_number : ℕ) (own others : List I) (digests : List ℕ) (counts : (t : Bool) → Counts p t) (holds : SlotsHold (rules a) match_number p s own others digests) (n : Note) (welcome : Welcome most_lead p s n) (ended : n.end ≤ played p (other s)) (grown : Grown p (taken p s n)) where
   abbrev r : Rules State I
@@ -73,19 +72,19 @@ module _ {I : Type 0} (a : Setup I) (lawful : Lawful a) (p : Plain I) (s : Bool)
   fresh = calls.fresh_inputs (setting_of a s) v d
 
   same_own : (k : ℕ) → true_input r q s k ≡ true_input r p s k
-  same_own k = ap (λ (e : Side I). get_or e.inputs k a.idle) (own_side p s side')
+  same_own k = grind arith
 
   same_others : (k : ℕ) → true_input r q (other s) k ≡ true_input r p (other s) k
-  same_others k = ap (λ (e : Side I). get_or e.inputs k a.idle) (other_side p s side')
+  same_others k = grind arith
 
   same_played : played q s ≡ played p s
-  same_played = ap (λ (e : Side I). length e.inputs) (own_side p s side')
+  same_played = grind arith
 
   same_played_other : played q (other s) ≡ played p (other s)
-  same_played_other = ap (λ (e : Side I). length e.inputs) (other_side p s side')
+  same_played_other = grind arith
 
   known_after : known q s ≡ max (known p s) n.end
-  known_after = ap (λ (e : Side I). e.known_frames) (own_side p s side')
+  known_after = grind arith
 
   code_count : length d.codes ≡ n.end - n.start
   code_count = length-map-range_with_len (λ f. a.code (true_input r p (other s) f)) n.start (n.end - n.start)
@@ -158,34 +157,15 @@ module _ {I : Type 0} (a : Setup I) (lawful : Lawful a) (p : Plain I) (s : Bool)
       let R = known p s in
       let F = λ (i : ℕ). a.code (other_at (setting_of a s) (inputs v) i) in
       let F' = λ (i : ℕ). a.code (other_at (setting_of a s) fresh i) in
-      ⊎_elim
-      (λ (over : P < R).
-      let none : P - R ≡ 0 = omega arith in
-      let e : P + 0 ≡ P = omega arith in
-      let f : 0 + P ≡ P = omega arith in
-      let left : first_difference F F' R (P - R) ≡ R = ap (first_difference F F' R) none in
-      let right : lowest ≡ 0 + P = ap (first_difference (code_in p) (code_in q) 0) (sym e) ∙ search_skips (code_in p) (code_in q) 0 P 0 (λ i _ high. unchanged i (omega arith)) in
-      omega arith)
-      (λ (under : R ≤ P).
-      let e : R + (P - R) ≡ P = omega arith in
-      let f : 0 + R ≡ R = omega arith in
-      let right : lowest ≡ first_difference (code_in p) (code_in q) R (P - R) =
-      ap (first_difference (code_in p) (code_in q) 0) (sym e)
-      ∙ search_skips (code_in p) (code_in q) 0 R (P - R) (λ i _ high. unchanged i (omega arith))
-      ∙ ap (λ k. first_difference (code_in p) (code_in q) k (P - R)) f in
-      let left : first_difference F F' R (P - R) ≡ first_difference (code_in p) (code_in q) R (P - R) =
-      first_same F F' (code_in p) (code_in q) R (P - R) (λ i low _. ap a.code (other_before i low)) (λ i low _. ap a.code (other_after i low)) in
-      ap (λ k. P - k) (left ∙ sym right))
-      (cases_lt P R)
+      let left = first_same F F' (code_in p) (code_in q) R (P - R) (λ i low _. ap a.code (other_before i low)) (λ i low _. ap a.code (other_after i low)) in
+      ap (λ k. P - k) left ∙ skips (code_in p) (code_in q) P R (λ i low. unchanged i low)
 
   few : frames ≤ 8
   few =
       let same = frames_same in
       let c = counts s in
-      ⊎_elim
-      (λ less. let from = lowest_from_known r p q s grown (counts s) less in omega arith)
-      (λ none. omega arith)
-      (cases_lt lowest (played p s))
+      let from = lowest_from_known r p q s grown (counts s) in
+      grind arith
 
   abbrev from : ℕ
   from = played p s - frames
@@ -226,19 +206,13 @@ module _ {I : Type 0} (a : Setup I) (lawful : Lawful a) (p : Plain I) (s : Bool)
 
   -- the state reported on is the seat's own
   report_agrees : digest_of (plain_state r q s (report n)) ≡ d.digest
-  report_agrees = ap digest_of (confirmed_is_true r q s (report n) welcome.report_confirmed_after ∙ truth_taken r p s n (report n))
+  report_agrees = ap digest_of (confirmed_is_true r q s (report n) welcome.report_confirmed_after ∙ grind arith)
 
   same_report : calls.report_differs (setting_of a s) v d after.digests ≡ false
   same_report =
       let w = welcome in
-      ⊎_elim
-      (λ recent.
-      let near = leb-true (played p s) (report n + 31) recent in
-      let there = digests_after.values (report n) (omega arith) (omega arith) in
-      and_right (leb (played p s) (report n + 31)) _
-      (ap (λ o. calls.differs o d.digest) there ∙ ap not (eq-eqb _ _ report_agrees)))
-      (λ old. and_left (leb (played p s) (report n + 31)) _ old)
-      (cases_Bool (leb (played p s) (report n + 31)))
+      let there = digests_after.values (report n) in
+      grind (arith, nat_tests, report_agrees)
 
   pub take_stands : SeatStands r match_number q s (calls.taken (setting_of a s) v d)
   unfolding calls.taken
@@ -258,47 +232,31 @@ module _ {I : Type 0} (a : Setup I) (lawful : Lawful a) (p : Plain I) (s : Bool)
 
   -- no check refuses it
   ours : calls.not_ours (setting_of a s) v d ≡ false
-  ours = or_from _ _ (ap not (eq-eqb match_number match_number refl)) (ap not (eq-eqb (seat_number (other s)) (seat_number (other s)) refl))
+  ours = grind (arith, nat_tests)
 
   pub fields_pass : calls.fields_check (setting_of a s) v d ≡ None
   fields_pass =
       let w = welcome in
       let e = ends in
       let k = known_after in
-      let late : (ltb (played p s) (report n) || (ltb (known p s) (report n) && ltb (calls.end_of d) (report n))) ≡ false =
-      or_from _ _ (le-ltb (played p s) (report n) (omega arith))
-      (⊎_elim
-      (λ above. and_right (ltb (known p s) (report n)) _ (le-ltb (calls.end_of d) (report n) (omega arith)))
-      (λ below. and_left (ltb (known p s) (report n)) _ (le-ltb (known p s) (report n) below))
-      (cases_lt (known p s) (report n))) in
-      cond-false (calls.not_ours (setting_of a s) v d) (Some NotOurs) _ ours
-      ∙ cond-false (not (calls.all_read a.reads d.codes)) (Some UnreadCode) _ (ap not (all_reads a lawful (true_input r p (other s)) (range_with_len n.start (n.end - n.start))))
-      ∙ cond-false (ltb (known p s) n.start) (Some StartTooLate) _ (le-ltb (known p s) n.start (omega arith))
-      ∙ cond-false (ltb (played p s + 8) (calls.end_of d) || ltb 60000 (calls.end_of d)) (Some EndTooLate) _ (or_from _ _ (le-ltb (played p s + 8) (calls.end_of d) (omega arith)) (le-ltb 60000 (calls.end_of d) (omega arith)))
-      ∙ cond-false (ltb (played p s) n.acknowledgement) (Some AcknowledgementTooLate) _ (le-ltb (played p s) n.acknowledgement (omega arith))
-      ∙ cond-false (ltb (played p s) (report n) || (ltb (known p s) (report n) && ltb (calls.end_of d) (report n))) (Some ReportTooLate) _
-      late
+      grind (arith, nat_tests, all_reads a lawful (true_input r p (other s)) (range_with_len n.start (n.end - n.start)))
 
   reaches : calls.reach_check (setting_of a s) v d ≡ None
   reaches =
       let long = length_listed r p s in
       let small = few in
       let same = frames_same in
-      cond-true _ _ _ (lt-ltb frames (length (listed r p s)) (omega arith))
+      grind (arith, nat_tests)
 
   module _ (whole : rightly_lent v ≡ true) (fits : Fits d) (bytes : List ℕ) (is : bytes ≡ bytes_of d) where
     read : read_of bytes ≡ Ok d
     read = ap read_of is ∙ read_back d fits
 
     pub take_passes : calls.take_refusal (setting_of a s) v bytes ≡ None
-    take_passes =
-        cond-true _ _ _ whole
-        ∙ ap (calls.read_check (setting_of a s) v) read
-        ∙ ap (λ o. calls.and_then o (calls.reach_check (setting_of a s) v d)) fields_pass
-        ∙ reaches
+    take_passes = grind (arith, read, fields_pass, reaches)
 
     pub take_leaves_is : calls.take_leaves (setting_of a s) v bytes ≡ calls.taken (setting_of a s) v d
-    take_leaves_is = ap (λ o. unless_refused o v (calls.read_taken (setting_of a s) v (read_of bytes))) take_passes ∙ ap (calls.read_taken (setting_of a s) v) read
+    take_leaves_is = grind (arith, take_passes, read)
 
     pub take_answers : calls.take_answer (setting_of a s) v bytes ≡ (accepted, played p s - lowest)
     take_answers =

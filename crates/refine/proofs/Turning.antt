@@ -1,11 +1,11 @@
 -- Every call keeps a match standing.
-use Rattle.std.proofs.Common.{◌≡◌, ℕ, ◌<◌, Bool, true, false, cond, List, [], ◌∷◌, ◌++◌, length, get_or, take, drop, Some, None, sym, refl, ap, ◌∙◌, subst, ⊎_elim, arith}
-use Rattle.std.proofs.lemmas.Bool.{cases_Bool, cond-true, cond-false}
+use Rattle.std.proofs.Common.{◌≡◌, ℕ, ◌<◌, Bool, true, cond, List, [], ◌∷◌, ◌++◌, length, get_or, take, drop, Some, None, sym, refl, ap, ◌∙◌, subst, arith}
+use Rattle.std.proofs.lemmas.Bool.{cond-true}
 use Rattle.interface.specs.declared.answers.Refusal.{Refusal}
 use Rattle.interface.specs.Answers.{accepted, number_of}
 use Rattle.interface.specs.Games.{State}
 use Rattle.plain.specs.Rules.{Rules}
-use Rattle.plain.specs.Match.{Plain, Turn, Move, Press, Send, Take, other, side, note, acting, answered, unless_refused, refusal, moved, answer, after, run}
+use Rattle.plain.specs.Match.{Plain, Turn, Move, other, side, note, acting, answered, unless_refused, refusal, moved, answer, after, run}
 use Rattle.plain.specs.States.{replayed}
 use Rattle.plain.proofs.Steps.{above_0, step, run_more}
 use Rattle.plain.proofs.Growth.{step_grows}
@@ -22,12 +22,7 @@ use Rattle.refine.proofs.Logging.{both, own_seat, other_seat, put_log, put_sent,
 
 -- the side that a move does not concern
 other_moved : {S I : Type 0} (r : Rules S I) (p : Plain I) (s : Bool) (m : Move) → side (moved r p s m) (other s) ≡ side p (other s)
-other_moved r p true (Press code) = refl
-other_moved r p false (Press code) = refl
-other_moved r p true (Send records) = refl
-other_moved r p false (Send records) = refl
-other_moved r p true (Take k records) = refl
-other_moved r p false (Take k records) = refl
+other_moved r p s m = grind arith
 
 module _ {I : Type 0} (a : Setup I) (match_number : ℕ) (ts : List Turn) where
   abbrev r : Rules State I
@@ -85,10 +80,7 @@ module _ {I : Type 0} (a : Setup I) (match_number : ℕ) (ts : List Turn) where
 
         same_acting : cond (well_brought b n) (seat b s) (seat m s) ≡ seat m s
         same_acting =
-            ⊎_elim
-            (λ yes. cond-true _ _ _ yes ∙ brings.own_slots yes)
-            (λ no. cond-false _ _ _ no)
-            (cases_Bool (well_brought b n))
+            let own = brings.own_slots in grind arith
 
         log' : List Entry
         log' = m.log ++ drop m.sent (take b.sent b.log)

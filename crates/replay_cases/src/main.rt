@@ -13,14 +13,16 @@ fn replays_as_reported(rt: &HostRuntime, name: &str) -> io::Result<bool> {
 
 fn main(rt: HostRuntime) -> io::Result<()> {
     let list = fs::read_to_string(&rt, "list.txt")?;
-    let mut cases = 0u32;
-    let mut wrong = 0u32;
+    let mut wrong = Vec::new(rt.alloc());
     for name in list.lines() {
-        cases = cases.saturating_add(1);
         if !replays_as_reported(&rt, name)? {
-            wrong = wrong.saturating_add(1);
             println!(rt; "{name}: another report")?;
+            wrong.push(name)?;
         }
     }
-    println!(rt; "{cases} traces, {wrong} with another report")
+    println!(rt;
+        "{} traces, {} with another report",
+        list.lines().count(),
+        wrong.len()
+    )
 }

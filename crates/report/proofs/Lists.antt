@@ -1,41 +1,28 @@
--- Lists that loops work off.
-use Rattle.std.proofs.Common.{◌≡◌, ℕ, ◌+◌, ◌*◌, ◌<◌, ◌≤◌, min, Bool, List, [], ◌∷◌, ◌++◌, map, length, get_or, take, drop, sym, refl, ap, ◌∙◌, ⊎_elim, arith}
-use Rattle.std.proofs.lemmas.List.{take_more, take_all, map_push, at_drop_more, drop_all}
-use Rattle.std.proofs.lemmas.Bool.{cases_lt}
+-- Sums over lists.
+use Rattle.std.proofs.Common.{◌≡◌, ℕ, ◌+◌, Bool, true, false, cond, List, [], ◌∷◌, map, sum, refl, ap, ◌∙◌, arith}
+use Rattle.std.specs.Bool.{beq}
+use Rattle.std.specs.List.{filter, zip}
+use Rattle.std.proofs.lemmas.List.Sums.{sum_by-cons}
 use Rattle.play.specs.declared.turns.Told.{Told}
 use Rattle.trace.specs.declared.forms.TraceTurn.{TraceTurn}
-use Rattle.report.specs.Totals.{counted, total}
-
--- one more of a list is pushed
-module _ {X Y : Type 0} (f : X → Y) (xs : List X) (i : ℕ) where
-  pub pushed : (d : X) (ys ys' : List Y) (y : Y) → i < length xs → ys ≡ map f (take i xs) → y ≡ f (get_or xs i d) → ys' ≡ ys ++ y ∷ [] → ys' ≡ map f (take (i + 1) xs)
-  pushed d ys ys' y low so_far is e =
-      e ∙ ap (λ z. ys ++ z ∷ []) is ∙ ap (λ zs. zs ++ f (get_or xs i d) ∷ []) so_far ∙ sym (ap (map f) (take_more xs i d low) ∙ map_push f (take i xs) (get_or xs i d))
-
-  pub all_pushed : (ys : List Y) → length xs ≤ i → ys ≡ map f (take i xs) → ys ≡ map f xs
-  all_pushed ys end so_far = so_far ∙ ap (map f) (take_all i xs end)
+use Rattle.report.specs.Totals.{total}
 
 abbrev pub frames : Told → ℕ
 frames y = y.frames
 
--- what is left to sum
-pub total_more : (s : Bool) (ts : List TraceTurn) (ys : List Told) (i : ℕ) (t : TraceTurn) (y : Told) → i < min (length ts) (length ys) → total s (drop i ts) (map frames (drop i ys)) ≡ counted (get_or ts i t) (get_or ys i y).frames s + total s (drop (i + 1) ts) (map frames (drop (i + 1) ys))
-total_more s ts ys i t y low =
-    at_drop_more (λ us. total s us (map frames (drop i ys))) ts i t (omega arith) ∙ at_drop_more (λ zs. total s (get_or ts i t ∷ drop (i + 1) ts) (map frames zs)) ys i y (omega arith)
+-- the frames of the seat's turns, summed
+module _ (s : Bool) where
+  abbrev own : List TraceTurn → List Told → List (TraceTurn × Told)
+  own ts ys = filter (λ (p : TraceTurn × Told). beq p.0.seat s) (zip ts ys)
 
-pub total_none : (s : Bool) (ts : List TraceTurn) (ys : List Told) (i : ℕ) → min (length ts) (length ys) ≤ i → total s (drop i ts) (map frames (drop i ys)) ≡ 0
-total_none s ts ys i end =
-    ⊎_elim
-    (λ (low : i < length ts). ap (λ zs. total s (drop i ts) (map frames zs)) (drop_all i ys (omega arith)) ∙ no_lines (drop i ts))
-    (λ (high : length ts ≤ i). ap (λ us. total s us (map frames (drop i ys))) (drop_all i ts (omega arith)))
-    (cases_lt i (length ts))
-  where
-    no_lines : (us : List TraceTurn) → total s us [] ≡ 0
-    no_lines [] = refl
-    no_lines (u ∷ us) = refl
+  abbrev replayed : List (TraceTurn × Told) → ℕ
+  replayed ps = sum (map (λ (p : TraceTurn × Told). p.1.frames) ps)
 
-pub small_sum : (sum i n x : ℕ) → sum ≤ i * 4294967295 → i < n → n < 18446744073709551616 → x < 4294967296 → sum + x < 340282366920938463463374607431768211456
-small_sum sum i n x a b c d = omega arith
-
-pub sum_more : (sum i n x y more all left : ℕ) → sum + left ≡ all → left ≡ y + more → x ≡ y → sum ≤ i * 4294967295 → x < 4294967296 → ((sum + x) + more ≡ all) × (sum + x ≤ (i + 1) * 4294967295)
-sum_more sum i n x y more all left a b c d e = (omega arith, omega arith)
+  pub total_is : (ts : List TraceTurn) (ys : List Told) → replayed (own ts ys) ≡ total s ts (map frames ys)
+  total_is [] ys = refl
+  total_is (t ∷ ts) [] = refl
+  total_is (t ∷ ts) (y ∷ ys) = at (beq t.seat s) (total_is ts ys)
+    where
+      at : (b : Bool) → replayed (own ts ys) ≡ total s ts (map frames ys) → replayed (cond b ((t, y) ∷ own ts ys) (own ts ys)) ≡ cond b (frames y) 0 + total s ts (map frames ys)
+      at true e = sum_by-cons (λ n. n) (frames y) (map (λ (p : TraceTurn × Told). p.1.frames) (own ts ys)) ∙ ap (λ n. frames y + n) e
+      at false e = omega (arith, e)

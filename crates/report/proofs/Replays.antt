@@ -1,5 +1,5 @@
 -- A replayed match, from the turns made again.
-use Rattle.std.proofs.Common.{◌≡◌, ℕ, ◌≤◌, min, Bool, List, [], ◌∷◌, map, length, take, Ok, Err, vec_items, vec_len, Result, Vec, sym, refl, ap, ◌∙◌, subst, arith, MatchResult}
+use Rattle.std.proofs.Common.{◌≡◌, ℕ, min, Bool, List, [], ◌∷◌, map, length, take, vec_items, vec_len, Vec, sym, refl, ap, ◌∙◌, subst, arith}
 use Rattle.std.specs.Vec.{with_items}
 use Rattle.std.specs.declared.alloc.Global.{Global}
 use Rattle.std.proofs.lemmas.List.{with_items_is, take_all, length-map}
@@ -7,10 +7,7 @@ use Rattle.interface.specs.Games.{State}
 use Rattle.plain.specs.Rules.{Rules}
 use Rattle.plain.specs.Match.{turn, fresh, seat_number}
 use Rattle.plain.specs.Match as plain
-use Rattle.refine.specs.Setup.{Setup}
-use Rattle.refine.specs.Memory.{Entry, SlotLists, own_lent}
-use Rattle.match_engine.specs.declared.log.Record.{Record}
-use Rattle.match_engine.specs.Log.{entry_of, entries}
+use Rattle.refine.specs.Memory.{own_lent}
 use Rattle.play.specs.declared.turns.Turn.{Turn}
 use Rattle.play.specs.declared.turns.Told.{Told}
 use Rattle.play.specs.Turns.{told_of}
@@ -18,13 +15,13 @@ use Rattle.trace.specs.declared.forms.TraceCall.{TraceCall}
 use Rattle.trace.specs.declared.forms.TraceCall.TheVariants.{Press, Send, Take}
 use Rattle.trace.specs.declared.forms.TraceTurn.{TraceTurn}
 use Rattle.report.specs.declared.ends.SeatEnd.{SeatEnd}
-use Rattle.report.specs.Reruns.{move_in, turn_in, Reran, log_after}
+use Rattle.report.specs.Reruns.{move_in, turn_in, Reran}
 use Rattle.report.specs.Turns.{call_in, lent_turn, plain_move, plain_turn}
 use Rattle.refine.specs.Plays as plays
 use Rattle.report.specs.Totals.{total}
 use Rattle.report.specs.Reports.{seat_line}
 use Rattle.report.proofs.Lists.{frames}
-use Rattle.report.specs.Replays.{tale_of, replayed, empty_slots, log_left}
+use Rattle.report.specs.Replays.{tale_of, replayed}
 
 all_of : (n : ℕ) → min n n ≡ n
 all_of n = omega arith
@@ -55,28 +52,6 @@ module _ {I : Type 0} (r : Rules State I) (records : ℕ) (ts : List TraceTurn) 
       let first = h'.first in
       let second = h'.second in
       λ i. record { lines = told' i; first = first i; second = second i }
-
--- there is room to tell of each turn
-pub room_for : (us : List Turn) (ts : List TraceTurn) (records : ℕ) (n m : ℕ) → us ≡ map (lent_turn records) ts → n ≡ m → m ≡ length ts → length us ≤ n
-room_for us ts records n m is e e' = let l = ap length is ∙ length-map ts (lent_turn records) in omega arith
-
-pub log_as : {I : Type 0} (a : Setup I) (n : ℕ) (x y : SlotLists I) (log log' : List Entry) (us us' : List Turn) → us ≡ us' → log' ≡ log_after a n x y log us → log' ≡ log_after a n x y log us'
-log_as a n x y log log' us us' is e = e ∙ ap (log_after a n x y log) is
-
--- as one game has it: slots with nothing in them
-module _ {I : Type 0} (a : Setup I) (n : ℕ) (idle : I) (is : idle ≡ a.idle) (log : List Record) (ts : List TraceTurn) where
-  abbrev filled : SlotLists I
-  filled = empty_slots idle
-
-  pub log_of_game : (log' : List Record) → entries log' ≡ log_after a n filled filled (entries log) (map (lent_turn (length log)) ts) → entries log' ≡ log_left a n (entries log) ts
-  log_of_game log' e =
-      e
-      ∙ ap (λ x. log_after a n (empty_slots x) (empty_slots x) (entries log) (map (lent_turn (length log)) ts)) is
-      ∙ ap (λ k. log_after a n (empty_slots a.idle) (empty_slots a.idle) (entries log) (map (lent_turn k) ts)) (sym (length-map log entry_of))
-
-  pub log_either : {X Y : Type 0} (r : Result X Y) (log' : List Record) → MatchResult r (λ _. entries log' ≡ log_after a n filled filled (entries log) (map (lent_turn (length log)) ts)) (λ _. log' ≡ log) → MatchResult r (λ _. entries log' ≡ log_left a n (entries log) ts) (λ _. log' ≡ log)
-  log_either (Ok x) log' e = log_of_game log' e
-  log_either (Err y) log' e = e
 
 -- the lines of the seats
 frames_told : (ys : List Told) → map (λ (y : plays.Told). y.frames) (map told_of ys) ≡ map frames ys

@@ -1,11 +1,10 @@
 -- What a list of turns made again gives, from the promise of a played match.
-use Rattle.std.proofs.Common.{◌≡◌, ℕ, zero, suc, ◌≤◌, min, Bool, true, false, List, [], ◌∷◌, map, length, take, set, Some, None, sym, refl, ap, ◌∙◌, arith, length-set}
+use Rattle.std.proofs.Common.{◌≡◌, ℕ, zero, suc, min, Bool, true, false, List, [], ◌∷◌, map, length, take, set, refl, ap, ◌∙◌, length-set}
 use Rattle.std.proofs.lemmas.List.{length-take, length-map}
-use Rattle.std.proofs.lemmas.Bool.{and_parts, and_from, eqb-true, le-leb}
+use Rattle.std.proofs.lemmas.Bool.{and_parts, eqb-true}
 use Rattle.interface.specs.Digest.{digest_of}
 use Rattle.interface.specs.Games.{State}
 use Rattle.interface.specs.Keepers.{Kept, newest}
-use Rattle.interface.specs.declared.answers.Refusal.{Refusal}
 use Rattle.plain.specs.Rules.{Rules}
 use Rattle.plain.specs.Match.{Plain, Send, Take, turn, played, fresh, run}
 use Rattle.plain.specs.States.{plain_state, down_from, listed}
@@ -26,29 +25,10 @@ use Rattle.play.specs.declared.turns.Call.TheVariants as calls
 use Rattle.play.specs.declared.turns.Turn.{Turn}
 use Rattle.play.specs.declared.turns.Told.{Told}
 use Rattle.play.specs.Turns.{call_of, step_of, steps_of, told_of}
-use Rattle.play.specs.Promise.{enough_slots, play_refusal, Played}
-use Rattle.play.proofs.Wholes.{accepts}
+use Rattle.play.specs.Promise.{Played}
 use Rattle.report.specs.declared.ends.SeatEnd.{SeatEnd}
 use Rattle.report.specs.Ends.{view_end, plain_end}
 use Rattle.report.specs.Reruns.{move_in, turn_in, Reran}
-
--- 32 slots are enough
-long_enough : {T : Type 0} (xs : List T) → length xs ≡ 32 → 32 ≤ length xs
-long_enough xs e = omega arith
-
-pub enough_of : {I : Type 0} (x : SlotLists I) → whole_slots x ≡ true → enough_slots x ≡ true
-enough_of x h =
-    let p = and_parts _ _ h in
-    let q = and_parts _ _ p.0 in
-    and_from _ _
-    (and_from _ _ (le-leb 32 (length x.own) (long_enough x.own (eqb-true _ _ q.0))) (le-leb 32 (length x.others) (long_enough x.others (eqb-true _ _ q.1))))
-    (le-leb 32 (length x.digests) (long_enough x.digests (eqb-true _ _ p.1)))
-
-pub not_refused : {I : Type 0} (x y : SlotLists I) (ts : List Turn) (told : List Told) (why : Refusal) → whole_slots x ≡ true → whole_slots y ≡ true → length ts ≤ length told → play_refusal x y ts told ≡ Some why → ⊥
-not_refused x y ts told why hx hy room e = let z : ◌≡◌ {A = ℕ} 0 1 = told_apart (sym (accepts x y ts told (enough_of x hx) (enough_of y hy) room) ∙ e) in omega arith
-  where
-    told_apart : None ≡ Some why → ◌≡◌ {A = ℕ} 0 1
-    told_apart p = cc
 
 -- the newest of the states listed
 pub newest_listed : {I : Type 0} (r : Rules State I) (p : Plain I) (s : Bool) → newest (listed r p s) ≡ plain_state r p s (played p s)

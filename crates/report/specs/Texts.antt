@@ -26,11 +26,15 @@ abbrev pub turn_texts : ℕ → List Told → List ℕ
 turn_texts n [] = []
 turn_texts n (y ∷ ys) = turn_text n y ++ turn_texts (n + 1) ys
 
--- a seat's number, P, R, A and C
-abbrev pub counts_text : ℕ → SeatEnd → List ℕ
-counts_text s x = line_of (codes "seat" ∷ decimal s ∷ decimal x.played ∷ decimal x.known ∷ decimal x.acknowledged ∷ decimal x.confirmed ∷ [])
+-- a seat's P, R, A and C, and its newest digest
+abbrev pub end_text : SeatEnd → List ℕ
+end_text x = line_of (decimal x.played ∷ decimal x.known ∷ decimal x.acknowledged ∷ decimal x.confirmed ∷ decimal x.digest ∷ [])
 
--- the same, the newest digest, and the frames replayed in all
+-- the same, and the frames replayed in all
+abbrev pub line_text : SeatLine → List ℕ
+line_text x = line_of (end_text x.end ∷ decimal x.replayed ∷ [])
+
+-- a seat's number, P, R, A, C, the newest digest, and the frames replayed in all
 abbrev pub seat_text : ℕ → SeatLine → List ℕ
 seat_text s x = line (codes "seat" ∷ decimal s ∷ decimal x.end.played ∷ decimal x.end.known ∷ decimal x.end.acknowledged ∷ decimal x.end.confirmed ∷ decimal x.end.digest ∷ decimal x.replayed ∷ [])
 

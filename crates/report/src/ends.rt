@@ -1,5 +1,9 @@
 // A seat at the end of a match, and a match that was replayed.
+ghost use Rattle.std.specs.Prelude.{Some};
+ghost use Rattle.report.specs.Texts.{end_text};
+
 use play::turns::Told;
+use std::fmt;
 
 #[derive(Clone, Copy)]
 pub struct SeatEnd {
@@ -12,7 +16,19 @@ pub struct SeatEnd {
     pub digest: u32,
 }
 
-// A match that was replayed: what is told of each turn, and both seats at the end.
+impl fmt::Display for SeatEnd {
+    ghost output = { λ x. Some (end_text x) };
+
+    fn fmt<W: fmt::Write>(&self, f: &mut fmt::Formatter<W>) -> fmt::Result {
+        write!(
+            f,
+            "{} {} {} {} {}",
+            self.played, self.known, self.acknowledged, self.confirmed, self.digest
+        )
+    }
+}
+
+// A match that was replayed: what is told of each turn, and both seats at the end, each by its name, as in a match.
 #[derive(Drop)]
 pub(crate) struct Replayed {
     pub(crate) lines: Vec<Told>,

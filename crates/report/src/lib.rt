@@ -8,6 +8,7 @@ pub mod replay;
 mod replaying;
 pub mod reports;
 mod rerun;
+mod slots;
 pub mod text;
 mod totals;
 mod turning;

@@ -28,9 +28,6 @@ pub fn answer(text: &[u8], heap: Global) -> Result<String, AllocError>
         return fault_text(fault, heap);
     }
     let mut log = vec![in heap; Record::empty(); LOG_RECORDS]?;
-    let report = match replay(text, &mut log, heap) {
-        Ok(report) => report,
-        Err(error) => return Err(error),
-    };
+    let report = replay(text, &mut log, heap)?;
     render(&report, heap)
 }

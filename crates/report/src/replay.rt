@@ -1,7 +1,7 @@
 // The replay of a trace: from its text to the report.
 ghost use Rattle.std.specs.Prelude.{◌≡◌, length, IfOk, Some, MatchResult};
 ghost use Rattle.match_engine.specs.Log.{entries};
-ghost use Rattle.report.specs.Games.{tale_by, log_by};
+ghost use Rattle.report.specs.Games.{log_by};
 ghost use Rattle.report.specs.Replays.{tale_of};
 ghost use Rattle.report.specs.Reports.{reported, seat_lines, by_first, report_on, log_on};
 
@@ -42,15 +42,14 @@ fn report_turns(
     ensures log { MatchResult result (λ _. entries log.new ≡ log_by first.game first.seed first.match_number (entries log.old) turns.now) (λ _. log.new ≡ log.old) }
 {
     let replayed = replay_match(first, turns, log, heap)?;
-    let seats = match fault {
-        None => Some(seat_lines(turns, &replayed)),
-        Some(_) => None,
+    let ending = match fault {
+        None => Ok(seat_lines(turns, &replayed)),
+        Some(fault) => Err(fault),
     };
     Ok(Report {
         first: Some(first),
         lines: replayed.lines,
-        fault,
-        seats,
+        ending,
     })
 }
 
@@ -64,8 +63,7 @@ pub fn replay(text: &[u8], log: &mut [Record], heap: Global) -> Result<Report, A
         return Ok(Report {
             first: None,
             lines: Vec::new(heap),
-            fault: trace.fault,
-            seats: None,
+            ending: Err(trace.fault.unwrap()),
         });
     };
     report_turns(first, &trace.turns, trace.fault, log, heap)

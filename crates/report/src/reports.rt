@@ -1,6 +1,10 @@
 // The report on a trace.
+ghost use Rattle.std.specs.Prelude.{Some};
+ghost use Rattle.report.specs.Texts.{line_text};
+
 use crate::ends::SeatEnd;
 use play::turns::Told;
+use std::fmt;
 use trace::forms::{Fault, First};
 
 // How a seat ends, and the frames that it has replayed in all.
@@ -10,11 +14,19 @@ pub struct SeatLine {
     pub replayed: u128,
 }
 
-// The first line; what is told of the turn on line 2, line 3 and so on; and the fault, or the line of each seat.
+impl fmt::Display for SeatLine {
+    ghost output = { λ x. Some (line_text x) };
+
+    fn fmt<W: fmt::Write>(&self, f: &mut fmt::Formatter<W>) -> fmt::Result {
+        write!(f, "{} {}", self.end, self.replayed)
+    }
+}
+
+// The first line; what is told of the turn on line 2, line 3 and so on; and the line of each seat, or the fault. There is no first
+// line where the fault lies in it, and there is one with a later fault.
 #[derive(Drop)]
 pub struct Report {
     pub first: Option<First>,
     pub lines: Vec<Told>,
-    pub fault: Option<Fault>,
-    pub seats: Option<(SeatLine, SeatLine)>,
+    pub ending: Result<(SeatLine, SeatLine), Fault>,
 }

@@ -1,15 +1,15 @@
 // A whole list of turns made again, and how the seats end.
-ghost use Rattle.std.specs.Prelude.{◌≡◌, ℕ, ◌≤◌, true, List, map, length, take};
+ghost use Rattle.std.specs.Prelude.{◌≡◌, ℕ, ◌≤◌, List, map, length, take, IfOk, MatchResult};
 ghost use Rattle.seat.specs.Meaning.{view};
 ghost use Rattle.refine.specs.Setup.{setup, rules};
-ghost use Rattle.refine.specs.Memory.{slot_lists};
 ghost use Rattle.match_engine.specs.Log.{entries};
-ghost use Rattle.match_engine.specs.Meaning.{whole_slots};
 ghost use Rattle.play.specs.Turns.{told_of};
 ghost use Rattle.report.specs.Ends.{view_end};
+ghost use Rattle.report.specs.Replays.{empty_slots};
 ghost use Rattle.report.specs.Reruns.{turn_in, Reran, log_after};
 
 use crate::ends::SeatEnd;
+use crate::slots::SeatSlots;
 use interface::game::Game;
 use interface::guess::GuessRule;
 use interface::input::InputKind;
@@ -17,11 +17,12 @@ use interface::keeper::Keeper;
 use match_engine::log::Record;
 use play::playing::play;
 use play::turns::{Told, Turn};
-use seat::state::{Seat, Slots};
+use seat::state::Seat;
+use std::alloc::{AllocError, Global};
 
 // What is read of a seat at the end.
 fn end_of<G: Game, K: Keeper<G>, H: GuessRule<G::Input>>(seat: &Seat<G, K, H>) -> SeatEnd
-    ensures { (own others : List G.Input) (digests : List ℕ) → result ≡ view_end (view K.Keeper.kept seat.now own others digests) }
+    ensures { (own others : List G.Input) (digests : List ℕ) → result ≡ view_end (view K.kept seat.now own others digests) }
 {
     SeatEnd {
         played: seat.played(),
@@ -43,39 +44,25 @@ pub(crate) fn rerun<
     match_number: u16,
     seed: u32,
     turns: &[Turn],
-    own_0: &mut [G::Input],
-    other_0: &mut [G::Input],
-    digests_0: &mut [u32],
-    own_1: &mut [G::Input],
-    other_1: &mut [G::Input],
-    digests_1: &mut [u32],
     log: &mut [Record],
     told: &mut [Told],
-) -> (SeatEnd, SeatEnd)
-    requires whole_0 { whole_slots (slot_lists own_0.old other_0.old digests_0.old) ≡ true }
-    requires whole_1 { whole_slots (slot_lists own_1.old other_1.old digests_1.old) ≡ true }
+    heap: Global,
+) -> Result<(SeatEnd, SeatEnd), AllocError>
     requires room { length turns.now ≤ length told.old }
-    ensures told { Reran (rules (setup (G.Game.opening seed) G.Game.next G.Input.InputKind.idle G.Input.InputKind.reads G.Input.InputKind.code H0.GuessRule.guessed H1.GuessRule.guessed)) (map (turn_in (length log.old)) turns.now) (map told_of (take (length turns.now) told.new)) result }
-    ensures log { entries log.new ≡ log_after (setup (G.Game.opening seed) G.Game.next G.Input.InputKind.idle G.Input.InputKind.reads G.Input.InputKind.code H0.GuessRule.guessed H1.GuessRule.guessed) match_number (slot_lists own_0.old other_0.old digests_0.old) (slot_lists own_1.old other_1.old digests_1.old) (entries log.old) turns.now }
+    ensures told { IfOk result (λ ends. Reran (rules (setup (G.opening seed) G.next G.Input.idle G.Input.reads G.Input.code H0.guessed H1.guessed)) (map (turn_in (length log.old)) turns.now) (map told_of (take (length turns.now) told.new)) ends) }
+    ensures log { MatchResult result (λ _. entries log.new ≡ log_after (setup (G.opening seed) G.next G.Input.idle G.Input.reads G.Input.code H0.guessed H1.guessed) match_number (empty_slots G.Input.idle) (empty_slots G.Input.idle) (entries log.old) turns.now) (λ _. log.new ≡ log.old) }
 {
-    let Ok(game) = play::<G, K0, K1, H0, H1>(
+    let mut first = SeatSlots::new(heap)?;
+    let mut second = SeatSlots::new(heap)?;
+    let game = play::<G, K0, K1, H0, H1>(
         match_number,
         seed,
-        Slots {
-            own: own_0,
-            other: other_0,
-            digests: digests_0,
-        },
-        Slots {
-            own: own_1,
-            other: other_1,
-            digests: digests_1,
-        },
+        first.lend(),
+        second.lend(),
         log,
         turns,
         told,
-    ) else {
-        unreachable()
-    };
-    (end_of(game.first()), end_of(game.second()))
+    )
+    .unwrap();
+    Ok((end_of(game.first()), end_of(game.second())))
 }

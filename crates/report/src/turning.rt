@@ -7,11 +7,12 @@ use play::turns::{Call, Turn};
 use std::alloc::{AllocError, Global};
 use trace::forms::{TraceCall, TraceTurn};
 
+// A function and no `From`, since both types are of other crates.
 fn turn_of(turn: TraceTurn, records: usize) -> Turn
     ensures { result ≡ lent_turn records turn }
 {
     Turn {
-        seat: if turn.seat { 1 } else { 0 },
+        seat: u32::from(turn.seat),
         call: match turn.call {
             TraceCall::Press(code) => Call::Press(code),
             TraceCall::Send => Call::Send,
@@ -32,9 +33,8 @@ pub(crate) fn turns_of(
 ) -> Result<Vec<Turn>, AllocError>
     ensures { IfOk result (λ v. v.items ≡ map (lent_turn records) turns.now) }
 {
-    let mut lent = Vec::with_capacity(heap, turns.len())?;
-    for turn in turns {
-        lent.push(turn_of(*turn, records))?;
-    }
-    Ok(lent)
+    turns
+        .iter()
+        .map(|turn| turn_of(*turn, records))
+        .collect(heap)
 }

@@ -3,7 +3,7 @@ use Rattle.std.proofs.Common.{◌≡◌, ℕ, zero, suc, ◌+◌, ◌-◌, ◌%�
 use Rattle.std.specs.List.{slice_get}
 use Rattle.std.proofs.lemmas.Bool.Decides.{nat_tests}
 use Rattle.std.proofs.lemmas.Bool.{lt-ltb, le-ltb, cases_eq}
-use Rattle.interface.proofs.Slots.{nth_set_same, nth_set_other}
+use Rattle.interface.proofs.Slots.{slice_get-set_same, slice_get-set_other}
 use Rattle.frames.specs.Queue.{held}
 use Rattle.rollback.specs.Inputs.{Setting, Inputs, input_at, other_at, sent_at, put_all, caught_up}
 
@@ -17,7 +17,7 @@ module _ {I : Type 0} (f : ℕ → I) where
   put_all_before slots k zero h low near = refl
   put_all_before slots k (suc n) h low near =
       put_all_before (set slots (k % 32) (f k)) (k + 1) n h (omega arith) (omega arith)
-      ∙ nth_set_other slots (k % 32) (h % 32) (f k) (omega arith)
+      ∙ slice_get-set_other slots (k % 32) (h % 32) (f k) (omega arith)
 
   -- a new frame reads what was put
   pub put_all_new : (slots : List I) (k n h : ℕ) → length slots ≡ 32 → n ≤ 32 → k ≤ h → h < k + n → slice_get (put_all slots k n f) (h % 32) ≡ Some (f h)
@@ -25,7 +25,7 @@ module _ {I : Type 0} (f : ℕ → I) where
   put_all_new slots k (suc n) h long few low high =
       ⊎_elim
       (λ same.
-      let here : slice_get (set slots (k % 32) (f k)) (k % 32) ≡ Some (f k) = nth_set_same slots (k % 32) (f k) (omega arith) in
+      let here : slice_get (set slots (k % 32) (f k)) (k % 32) ≡ Some (f k) = slice_get-set_same slots (k % 32) (f k) (omega arith) in
       let kept = put_all_before (set slots (k % 32) (f k)) (k + 1) n k (omega arith) (omega arith) in
       ap (λ x. slice_get (put_all (set slots (k % 32) (f k)) (k + 1) n f) (x % 32)) same ∙ kept ∙ here ∙ ap (λ x. Some (f x)) (sym same))
       (λ apart. put_all_new (set slots (k % 32) (f k)) (k + 1) n h (length-set slots (k % 32) (f k) ∙ long) (omega arith) (omega arith) (omega arith))

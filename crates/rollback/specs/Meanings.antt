@@ -7,7 +7,7 @@ use Rattle.rollback.specs.declared.inputs.Held.{Held}
 use Rattle.rollback.specs.Inputs.{Inputs}
 
 abbrev pub inputs_of : {I : Type 0} → Held I → Inputs I
-inputs_of h = record { own = h.own_slots.now; played = h.own.next; others = h.other_slots.now; known = h.other.next }
+inputs_of h = record { own = h.own.slots.now; played = h.own.queue.next; others = h.other.slots.now; known = h.other.queue.next }
 
 -- the codes of a datagram that was read
 abbrev pub codes_in : Datagram (Bor (List ℕ)) → List ℕ

@@ -11,38 +11,43 @@ use interface::game::Game;
 use interface::guess::GuessRule;
 use interface::input::InputKind;
 
-// A seat's own inputs (next P) and the other seat's (next R), each with its slots.
-#[derive(Drop)]
-pub struct Held<'a, I> {
-    pub own: FrameQueue,
-    pub own_slots: &'a [I],
-    pub other: FrameQueue,
-    pub other_slots: &'a [I],
+// A queue of inputs with the slots that it is lent, to be read.
+#[derive(Clone, Copy)]
+pub struct Window<'a, I> {
+    pub queue: FrameQueue,
+    pub slots: &'a [I],
 }
 
-// The input of a frame, or idle where it is not held.
-pub fn input_at<I: InputKind>(queue: FrameQueue, slots: &[I], frame: u32) -> I
-    ensures { result ≡ unwrap_or (held slots.now queue.next frame) I.InputKind.idle }
-{
-    match queue.get(slots, frame) {
-        Some(input) => input,
-        None => I::idle(),
+impl<I: InputKind> Window<'_, I> {
+    // The input of a frame, or idle where it is not held.
+    pub fn input_at(&self, frame: u32) -> I
+        ensures { result ≡ unwrap_or (held self.now.slots.now self.now.queue.next frame) I.idle }
+    {
+        self.queue.get(self.slots, frame).unwrap_or(I::idle())
     }
 }
 
-// The other seat's input for a frame: known below R, and from R on the guess from the last known.
+// A seat's own inputs (next P) and the other seat's (next R).
+#[derive(Clone, Copy)]
+pub struct Held<'a, I> {
+    pub own: Window<'a, I>,
+    pub other: Window<'a, I>,
+}
+
+// The other seat's input for a frame: known below R, and from R on the guess from the last known. A frame is a bare number, as in every
+// call: a type for frames up to the last would be made anew at each step.
 pub fn other_at<G: Game, H: GuessRule<G::Input>>(
     inputs: &Held<'_, G::Input>,
     frame: u32,
 ) -> G::Input
     requires { frame ≤ top_frame }
-    ensures { result ≡ other_at (setting G.Game.next G.Input.InputKind.idle G.Input.InputKind.reads G.Input.InputKind.code H.GuessRule.guessed) (inputs_of inputs.now) frame }
+    ensures { result ≡ other_at (setting G.next G.Input.idle G.Input.reads G.Input.code H.guessed) (inputs_of inputs.now) frame }
 {
-    let known = inputs.other.next();
+    let known = inputs.other.queue.next();
     if frame < known {
-        return input_at(inputs.other, inputs.other_slots, frame);
+        return inputs.other.input_at(frame);
     }
-    let last = input_at(inputs.other, inputs.other_slots, known.saturating_sub(1));
+    let last = inputs.other.input_at(known.saturating_sub(1));
     H::guess(last, frame + 1 - known)
 }
 
@@ -52,9 +57,9 @@ pub fn pair_at<G: Game, H: GuessRule<G::Input>>(
     frame: u32,
 ) -> (G::Input, G::Input)
     requires { frame ≤ top_frame }
-    ensures { result ≡ pair_at (setting G.Game.next G.Input.InputKind.idle G.Input.InputKind.reads G.Input.InputKind.code H.GuessRule.guessed) (inputs_of inputs.now) frame }
+    ensures { result ≡ pair_at (setting G.next G.Input.idle G.Input.reads G.Input.code H.guessed) (inputs_of inputs.now) frame }
 {
-    let own = input_at(inputs.own, inputs.own_slots, frame);
+    let own = inputs.own.input_at(frame);
     (own, other_at::<G, H>(inputs, frame))
 }
 

@@ -12,7 +12,9 @@ use interface::game::Game;
 use interface::guess::GuessRule;
 use interface::keeper::{Keeper, replay};
 
-// Plays a frame, and puts the digest of the state after it.
+// Plays a frame, and puts the digest of the state after it. The keeper and the digests are lent one by one, here and below: a struct of
+// `&mut`s would want a clause for each that it stays the same reference. And slots are lent as slices of which 32 are asked: arrays of
+// 32 would have to be made of the caller's slices three times in each call of a seat.
 pub fn play_frame<G: Game, K: Keeper<G>, H: GuessRule<G::Input>>(
     keeper: &mut K,
     second: bool,
@@ -25,7 +27,7 @@ pub fn play_frame<G: Game, K: Keeper<G>, H: GuessRule<G::Input>>(
     requires low { frame < digests.old.next }
     requires near { digests.old.next ≤ frame + queue_slots }
     requires top { frame < top_frame }
-    ensures kept { kept_states (K.Keeper.kept keeper.new).states slots.new ≡ frame_at (setting G.Game.next G.Input.InputKind.idle G.Input.InputKind.reads G.Input.InputKind.code H.GuessRule.guessed) second (inputs_of inputs.now) frame (kept_states (K.Keeper.kept keeper.old).states slots.old) }
+    ensures kept { kept_states (K.kept keeper.new).states slots.new ≡ frame_at (setting G.next G.Input.idle G.Input.reads G.Input.code H.guessed) second (inputs_of inputs.now) frame (kept_states (K.kept keeper.old).states slots.old) }
     ensures next { digests.new.next ≡ max digests.old.next (frame + 2) }
 {
     let (own, other) = pair_at::<G, H>(inputs, frame);
@@ -34,7 +36,8 @@ pub fn play_frame<G: Game, K: Keeper<G>, H: GuessRule<G::Input>>(
     let _ = digests.put(slots, frame + 1, keeper.digest());
 }
 
-// Plays a frame again that was gone back over, which pays one of the debt, and replaces the digest of the state after it.
+// Plays a frame again that was gone back over, which pays one of the debt, and replaces the digest of the state after it. A closure for the
+// step, shared with `play_frame`, would want a clause that says what it leaves, longer than these lines.
 fn replay_frame<G: Game, K: Keeper<G>, H: GuessRule<G::Input>>(
     keeper: &mut K,
     debt: &mut Debt,
@@ -49,7 +52,7 @@ fn replay_frame<G: Game, K: Keeper<G>, H: GuessRule<G::Input>>(
     requires low { frame < digests.old.next }
     requires near { digests.old.next ≤ frame + queue_slots }
     requires top { frame < top_frame }
-    ensures kept { kept_states (K.Keeper.kept keeper.new).states slots.new ≡ frame_at (setting G.Game.next G.Input.InputKind.idle G.Input.InputKind.reads G.Input.InputKind.code H.GuessRule.guessed) second (inputs_of inputs.now) frame (kept_states (K.Keeper.kept keeper.old).states slots.old) }
+    ensures kept { kept_states (K.kept keeper.new).states slots.new ≡ frame_at (setting G.next G.Input.idle G.Input.reads G.Input.code H.guessed) second (inputs_of inputs.now) frame (kept_states (K.kept keeper.old).states slots.old) }
     ensures next { digests.new.next ≡ max digests.old.next (frame + 2) }
     ensures debt { debt.new.owed ≡ debt.old.owed - 1 }
 {
@@ -74,12 +77,10 @@ pub fn pay_off<G: Game, K: Keeper<G>, H: GuessRule<G::Input>>(
     requires low { from + debt.owed < digests.old.next }
     requires near { digests.old.next ≤ from + queue_slots }
     requires top { from + debt.owed ≤ top_frame }
-    ensures kept { kept_states (K.Keeper.kept keeper.new).states slots.new ≡ frames_from (setting G.Game.next G.Input.InputKind.idle G.Input.InputKind.reads G.Input.InputKind.code H.GuessRule.guessed) second (inputs_of inputs.now) from debt.owed (kept_states (K.Keeper.kept keeper.old).states slots.old) }
+    ensures kept { kept_states (K.kept keeper.new).states slots.new ≡ frames_from (setting G.next G.Input.idle G.Input.reads G.Input.code H.guessed) second (inputs_of inputs.now) from debt.owed (kept_states (K.kept keeper.old).states slots.old) }
     ensures next { digests.new.next ≡ digests.old.next }
 {
-    let mut frame = from;
-    while debt.owed() > 0 {
+    for frame in from..from + debt.owed() {
         replay_frame::<G, K, H>(keeper, &mut debt, second, inputs, digests, slots, frame);
-        frame += 1;
     }
 }

@@ -1,11 +1,12 @@
 -- Checks one after another: what passing them tells.
 use Rattle.std.proofs.Common.{◌≡◌, ℕ, Bool, true, false, cond, length, Some, None, Ok, Err, Option, sym, refl, ap, ◌∙◌, arith}
+use Rattle.std.specs.Int.{from_bool}
 use Rattle.std.proofs.lemmas.Bool.{and_parts, eqb-true}
 use Rattle.interface.specs.Answers.{accepted, number_of}
 use Rattle.interface.specs.declared.answers.Refusal.{Refusal}
 use Rattle.interface.specs.declared.answers.Refusal.TheVariants.{BadFrame}
 use Rattle.plain.specs.Match.{answered, unless_refused}
-use Rattle.seat.specs.Views.{View, rightly_lent}
+use Rattle.seat.specs.Views.{View, rightly_lent, seat_number}
 use Rattle.seat.specs.Calls.{or_refused, with_slots}
 
 -- a check that passed, and those after it
@@ -46,3 +47,8 @@ kept_by o why old new e = sym (ap (λ p. unless_refused p old new) e)
 
 pub changed_by : {X : Type 0} (o : Option Refusal) (old new : X) → o ≡ None → new ≡ unless_refused o old new
 changed_by o old new e = sym (ap (λ p. unless_refused p old new) e)
+
+-- a seat's number, as a byte
+pub seat_is : (s : Bool) → from_bool s ≡ seat_number s
+seat_is true = refl
+seat_is false = refl

@@ -1,11 +1,13 @@
 -- What a seat's calls answer, and what they leave.
-use Rattle.std.specs.Prelude.{ℕ, ◌+◌, ◌-◌, ◌%◌, max, Bool, true, false, cond, not, ◌&&◌, ◌||◌, List, [], ◌∷◌, map, length, drop, is_some, Some, None, Ok, Err, Option, Result, ◌==◌, nat_le, nat_lt, slice_set}
-use Rattle.std.specs.List.{range_with_len}
+use Rattle.std.specs.Prelude.{ℕ, ◌+◌, ◌-◌, ◌%◌, max, Bool, false, cond, not, ◌&&◌, ◌||◌, List, [], ◌∷◌, map, length, drop, is_some, Some, None, Ok, Err, Option, Result, ◌==◌, nat_le, nat_lt, slice_set}
+use Rattle.std.specs.List.{list_all, range_with_len}
 use Rattle.std.specs.Option.{unwrap_or}
 use Rattle.interface.specs.Digest.{digest_of}
 use Rattle.interface.specs.Games.{State}
 use Rattle.interface.specs.Answers.{accepted, accepted_and_parted}
 use Rattle.interface.specs.Limits.{match_length, most_lead, most_unacknowledged, queue_slots}
+use Rattle.interface.specs.declared.answers.Acceptance.{Acceptance}
+use Rattle.interface.specs.declared.answers.Acceptance.TheVariants.{Accepted, AcceptedAndParted}
 use Rattle.interface.specs.declared.answers.Refusal.{Refusal}
 use Rattle.interface.specs.declared.answers.Refusal.TheVariants.{NotOurs, UnreadCode, StartTooLate, EndTooLate, AcknowledgementTooLate, ReportTooLate, Parted, MatchOver, TooFarAhead, Unacknowledged, BufferTooShort, OutOfReach, BadFrame}
 use Rattle.frames.specs.Queue.{held}
@@ -80,8 +82,7 @@ module _ {I : Type 0} (g : Setting I) (v : View I) where
 
 -- every code reads
 abbrev pub all_read : {I : Type 0} → (ℕ → Option I) → List ℕ → Bool
-all_read reads [] = true
-all_read reads (c ∷ cs) = is_some (reads c) && all_read reads cs
+all_read reads codes = list_all (λ c. is_some (reads c)) codes
 
 abbrev pub end_of : Fields → ℕ
 end_of d = d.start + length d.codes
@@ -164,6 +165,15 @@ module _ {I : Type 0} (g : Setting I) (v : View I) where
   -- the code, and the frames replayed
   abbrev pub take_answer : List ℕ → ℕ × ℕ
   take_answer bytes = unless_refused (take_refusal bytes) (answered (take_refusal bytes), 0) (cond (take_leaves bytes).parted accepted_and_parted accepted, read_replayed (read_of bytes))
+
+-- how a take is accepted: its seat parts or not
+abbrev pub acceptance : Bool → Acceptance
+acceptance parts = cond parts AcceptedAndParted Accepted
+
+module _ {I : Type 0} (g : Setting I) (v : View I) where
+  -- the same, where the take is accepted, with the frames replayed
+  abbrev pub take_accepted : List ℕ → Acceptance × ℕ
+  take_accepted bytes = (acceptance (take_leaves g v bytes).parted, read_replayed g v (read_of bytes))
 
 -- what checks let through, or the refusal
 abbrev pub or_refused : {X : Type 0} → Option Refusal → X → Result X Refusal

@@ -8,7 +8,6 @@ ghost use Rattle.interface.specs.declared.answers.Refusal.TheVariants.{BadFrame}
 ghost use Rattle.seat.specs.Calls.{opened};
 ghost use Rattle.seat.specs.Meaning.{view};
 
-use crate::press::are_slots;
 use crate::state::{Seat, Slots};
 use frames::queue::FrameQueue;
 use interface::answers::Refusal;
@@ -19,7 +18,8 @@ use interface::keeper::Keeper;
 use std::marker::PhantomData;
 
 impl<G: Game, K: Keeper<G>, H: GuessRule<G::Input>> Seat<G, K, H> {
-    // Opens seat 0, or seat 1 where `second`, and puts the digest of state 0.
+    // Opens seat 0, or seat 1 where `second`, and puts the digest of state 0. The match's number stays with the seat and the seed goes to the
+    // game, so they are two parameters here and above.
     pub fn open(
         second: bool,
         match_number: u16,
@@ -27,25 +27,21 @@ impl<G: Game, K: Keeper<G>, H: GuessRule<G::Input>> Seat<G, K, H> {
         slots: Slots<'_, G::Input>,
     ) -> Result<Self, Refusal>
         ensures answer { is_ok result ≡ (whole slots.entry.own.now && whole slots.entry.other.now && whole slots.entry.digests.now) }
-        ensures seat { MatchResult result (λ s. view K.Keeper.kept s slots.exit.0.now slots.exit.1.0.now slots.exit.1.1.0.now ≡ opened second match_number (G.Game.opening seed) slots.entry.own.now slots.entry.other.now slots.entry.digests.now) (λ why. (why ≡ BadFrame) × (slots.exit.0.now ≡ slots.entry.own.now) × (slots.exit.1.0.now ≡ slots.entry.other.now) × (slots.exit.1.1.0.now ≡ slots.entry.digests.now)) }
+        ensures seat { MatchResult result (λ s. view K.kept s slots.exit.0.now slots.exit.1.0.now slots.exit.1.1.0.now ≡ opened second match_number (G.opening seed) slots.entry.own.now slots.entry.other.now slots.entry.digests.now) (λ why. (why ≡ BadFrame) × (slots.exit.0.now ≡ slots.entry.own.now) × (slots.exit.1.0.now ≡ slots.entry.other.now) × (slots.exit.1.1.0.now ≡ slots.entry.digests.now)) }
     {
-        let Slots {
-            own,
-            other,
-            digests,
-        } = slots;
-        if !are_slots(own.len(), other.len(), digests.len()) {
+        if !slots.are_whole() {
             return Err(Refusal::BadFrame);
         }
+        let Slots { digests: held, .. } = slots;
         let keeper = K::open(seed);
-        let mut queue = FrameQueue::new();
-        let _ = queue.put(digests, 0, keeper.digest());
+        let mut digests = FrameQueue::new();
+        let _ = digests.put(held, 0, keeper.digest());
         Ok(Seat {
             second,
             match_number,
             own: FrameQueue::new(),
             other: FrameQueue::new(),
-            digests: queue,
+            digests,
             acknowledged: 0,
             parted: false,
             keeper,
@@ -57,50 +53,46 @@ impl<G: Game, K: Keeper<G>, H: GuessRule<G::Input>> Seat<G, K, H> {
     pub fn played(&self) -> u32
         ensures { result ≡ self.now.own.next }
     {
-        let inputs = &self.own;
-        inputs.next()
+        self.own.next()
     }
 
     // R: the other seat's inputs that are known.
     pub fn known(&self) -> u32
         ensures { result ≡ self.now.other.next }
     {
-        let inputs = &self.other;
-        inputs.next()
+        self.other.next()
     }
 
     // A: the own inputs that are acknowledged.
     pub fn acknowledged(&self) -> u32
         ensures { result ≡ self.now.acknowledged }
     {
-        let Seat { acknowledged, .. } = self;
-        *acknowledged
+        self.acknowledged
     }
 
     // C: states 0 to C are confirmed.
     pub fn confirmed(&self) -> u32
         ensures { result ≡ min self.now.own.next self.now.other.next }
     {
-        self.own.next().min(self.other.next())
+        self.played().min(self.known())
     }
 
     pub fn has_parted(&self) -> bool
         ensures { result ≡ self.now.parted }
     {
-        let Seat { parted, .. } = self;
-        *parted
+        self.parted
     }
 
     // Word k of the newest state, or nothing past its end.
     pub fn word(&self, k: u32) -> Option<u32>
-        ensures { result ≡ slice_get (newest (K.Keeper.kept self.now.keeper).states) k }
+        ensures { result ≡ slice_get (newest (K.kept self.now.keeper).states) k }
     {
         self.keeper.word(k)
     }
 
     // The digest of the newest state.
     pub fn digest(&self) -> u32
-        ensures { result ≡ digest_of (newest (K.Keeper.kept self.now.keeper).states) }
+        ensures { result ≡ digest_of (newest (K.kept self.now.keeper).states) }
     {
         self.keeper.digest()
     }

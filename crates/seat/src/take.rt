@@ -1,48 +1,38 @@
 // Take: a datagram of the other seat, as any bytes.
-ghost use Rattle.std.specs.Prelude.{◌≡◌, ◌+◌, ◌≤◌, min, false, [], length, is_ok, IfOk, if◌then◌else◌};
-ghost use Rattle.interface.specs.Answers.{accepted, accepted_and_parted};
+ghost use Rattle.std.specs.Prelude.{◌≡◌, ◌+◌, ◌≤◌, false, [], length, is_ok, IfOk};
 ghost use Rattle.interface.specs.Limits.{queue_slots, most_codes, match_length, most_lead};
 ghost use Rattle.rollback.specs.Inputs.{setting};
 ghost use Rattle.rollback.specs.Meanings.{codes_in, end_of};
 ghost use Rattle.datagram.specs.Meanings.{answered, fields_read};
 ghost use Rattle.plain.specs.Match.{unless_refused};
-ghost use Rattle.seat.specs.Calls.{or_refused, all_read, take_checked, reach_check, frames_replayed, caught, report_differs, judged, take_answer, take_leaves};
+ghost use Rattle.seat.specs.Calls.{or_refused, all_read, take_checked, reach_check, frames_replayed, caught, acceptance, report_differs, judged, take_refusal, take_accepted, take_answer, take_leaves};
 ghost use Rattle.seat.specs.Laws.{Replays, Refused};
 ghost use Rattle.seat.specs.Meaning.{view};
 
-use crate::press::{are_slots, seat_byte};
 use crate::state::{Seat, Slots};
 use datagram::forms::Datagram;
 use datagram::read::read;
-use interface::answers::{ACCEPTED, ACCEPTED_AND_PARTED, Refusal};
+use interface::answers::{Acceptance, Refusal};
 use interface::game::Game;
 use interface::guess::GuessRule;
 use interface::input::InputKind;
 use interface::keeper::Keeper;
 use interface::limits::{MATCH_LENGTH, MOST_LEAD};
-use rollback::inputs::Held;
+use rollback::inputs::{Held, Window};
 use rollback::news::{end_of, keep_codes, lowest_change};
 use rollback::replaying::pay_off;
 
 // Whether every code of the datagram reads.
 fn all_read<I: InputKind>(datagram: &Datagram<&[u8]>) -> bool
-    ensures { result ≡ all_read I.InputKind.reads (codes_in datagram.now) }
+    ensures { result ≡ all_read I.reads (codes_in datagram.now) }
 {
-    for k in 0..datagram.count() {
-        let Some(code) = datagram.code(k) else {
-            return true;
-        };
-        let Some(_) = I::read(code) else {
-            return false;
-        };
-    }
-    true
+    datagram.codes().all(|code| I::read(code).is_some())
 }
 
 impl<G: Game, K: Keeper<G>, H: GuessRule<G::Input>> Seat<G, K, H> {
     // The datagram that the bytes are, or the first check that fails.
     fn check_take<'a>(&self, bytes: &'a [u8]) -> Result<Datagram<&'a [u8]>, Refusal>
-        ensures answer { answered result ≡ take_checked (setting G.Game.next G.Input.InputKind.idle G.Input.InputKind.reads G.Input.InputKind.code H.GuessRule.guessed) (view K.Keeper.kept self.now [] [] []) bytes.now }
+        ensures answer { answered result ≡ take_checked (setting G.next G.Input.idle G.Input.reads G.Input.code H.guessed) (view K.kept self.now [] [] []) bytes.now }
         ensures few { IfOk result (λ d. length (codes_in d) ≤ most_codes) }
     {
         if self.parted {
@@ -53,9 +43,7 @@ impl<G: Game, K: Keeper<G>, H: GuessRule<G::Input>> Seat<G, K, H> {
         let known = self.other.next();
         let end = end_of(&datagram);
         let report = u32::from(datagram.report_frame);
-        if datagram.match_number != self.match_number
-            || datagram.sender != seat_byte(!self.second)
-        {
+        if datagram.match_number != self.match_number || datagram.sender != u8::from(!self.second) {
             return Err(Refusal::NotOurs);
         }
         if !all_read::<G::Input>(&datagram) {
@@ -91,26 +79,34 @@ impl<G: Game, K: Keeper<G>, H: GuessRule<G::Input>> Seat<G, K, H> {
         requires near { end_of datagram.now ≤ self.old.own.next + most_lead }
         requires within { end_of datagram.now ≤ match_length }
         requires acknowledgement { datagram.now.acknowledgement ≤ self.old.own.next }
-        ensures answer { result ≡ or_refused (reach_check (setting G.Game.next G.Input.InputKind.idle G.Input.InputKind.reads G.Input.InputKind.code H.GuessRule.guessed) (view K.Keeper.kept self.old own.now other.old digests.old) (fields_read datagram.now)) (frames_replayed (setting G.Game.next G.Input.InputKind.idle G.Input.InputKind.reads G.Input.InputKind.code H.GuessRule.guessed) (view K.Keeper.kept self.old own.now other.old digests.old) (fields_read datagram.now)) }
-        ensures leaves { view K.Keeper.kept self.new own.now other.new digests.new ≡ unless_refused (reach_check (setting G.Game.next G.Input.InputKind.idle G.Input.InputKind.reads G.Input.InputKind.code H.GuessRule.guessed) (view K.Keeper.kept self.old own.now other.old digests.old) (fields_read datagram.now)) (view K.Keeper.kept self.old own.now other.old digests.old) (caught (setting G.Game.next G.Input.InputKind.idle G.Input.InputKind.reads G.Input.InputKind.code H.GuessRule.guessed) (view K.Keeper.kept self.old own.now other.old digests.old) (fields_read datagram.now)) }
+        ensures answer { result ≡ or_refused (reach_check (setting G.next G.Input.idle G.Input.reads G.Input.code H.guessed) (view K.kept self.old own.now other.old digests.old) (fields_read datagram.now)) (frames_replayed (setting G.next G.Input.idle G.Input.reads G.Input.code H.guessed) (view K.kept self.old own.now other.old digests.old) (fields_read datagram.now)) }
+        ensures leaves { view K.kept self.new own.now other.new digests.new ≡ unless_refused (reach_check (setting G.next G.Input.idle G.Input.reads G.Input.code H.guessed) (view K.kept self.old own.now other.old digests.old) (fields_read datagram.now)) (view K.kept self.old own.now other.old digests.old) (caught (setting G.next G.Input.idle G.Input.reads G.Input.code H.guessed) (view K.kept self.old own.now other.old digests.old) (fields_read datagram.now)) }
         ensures same { is_ok result ≡ false → self.new ≡ self.old }
     {
         let played = self.own.next();
         let before = Held {
-            own: self.own,
-            own_slots: own,
-            other: self.other,
-            other_slots: other,
+            own: Window {
+                queue: self.own,
+                slots: own,
+            },
+            other: Window {
+                queue: self.other,
+                slots: other,
+            },
         };
         let frames = played.saturating_sub(lowest_change::<G, H>(&before, datagram));
         let debt = self.keeper.go_back(frames)?;
         keep_codes(&mut self.other, other, datagram);
         self.acknowledged = self.acknowledged.max(u32::from(datagram.acknowledgement));
         let after = Held {
-            own: self.own,
-            own_slots: own,
-            other: self.other,
-            other_slots: other,
+            own: Window {
+                queue: self.own,
+                slots: own,
+            },
+            other: Window {
+                queue: self.other,
+                slots: other,
+            },
         };
         pay_off::<G, K, H>(
             &mut self.keeper,
@@ -126,7 +122,7 @@ impl<G: Game, K: Keeper<G>, H: GuessRule<G::Input>> Seat<G, K, H> {
 
     // Whether the report is recent and differs from the digest held.
     fn report_differs(&self, digests: &[u32], datagram: &Datagram<&[u8]>) -> bool
-        ensures { result ≡ report_differs (setting G.Game.next G.Input.InputKind.idle G.Input.InputKind.reads G.Input.InputKind.code H.GuessRule.guessed) (view K.Keeper.kept self.now [] [] []) (fields_read datagram.now) digests.now }
+        ensures { result ≡ report_differs (setting G.next G.Input.idle G.Input.reads G.Input.code H.guessed) (view K.kept self.now [] [] []) (fields_read datagram.now) digests.now }
     {
         let report = u32::from(datagram.report_frame);
         if self.own.next() > report + 31 {
@@ -138,24 +134,48 @@ impl<G: Game, K: Keeper<G>, H: GuessRule<G::Input>> Seat<G, K, H> {
         }
     }
 
-    // Judges the report last: the seat has parted where it differs. Answers the code.
-    fn judge(&mut self, digests: &[u32], datagram: &Datagram<&[u8]>) -> u32
-        ensures code { result ≡ (if report_differs (setting G.Game.next G.Input.InputKind.idle G.Input.InputKind.reads G.Input.InputKind.code H.GuessRule.guessed) (view K.Keeper.kept self.old [] [] []) (fields_read datagram.now) digests.now then accepted_and_parted else accepted) }
-        ensures leaves { view {I = G.Input} K.Keeper.kept self.new [] [] [] ≡ judged (view K.Keeper.kept self.old [] [] []) (report_differs (setting G.Game.next G.Input.InputKind.idle G.Input.InputKind.reads G.Input.InputKind.code H.GuessRule.guessed) (view K.Keeper.kept self.old [] [] []) (fields_read datagram.now) digests.now) }
+    // Judges the report last: the seat has parted where it differs.
+    fn judge(&mut self, digests: &[u32], datagram: &Datagram<&[u8]>) -> Acceptance
+        ensures how { result ≡ acceptance (report_differs (setting G.next G.Input.idle G.Input.reads G.Input.code H.guessed) (view K.kept self.old [] [] []) (fields_read datagram.now) digests.now) }
+        ensures leaves { view {I = G.Input} K.kept self.new [] [] [] ≡ judged (view K.kept self.old [] [] []) (report_differs (setting G.next G.Input.idle G.Input.reads G.Input.code H.guessed) (view K.kept self.old [] [] []) (fields_read datagram.now) digests.now) }
     {
         self.parted = self.report_differs(digests, datagram);
         if self.parted {
-            ACCEPTED_AND_PARTED
+            Acceptance::AcceptedAndParted
         } else {
-            ACCEPTED
+            Acceptance::Accepted
         }
     }
 
-    // Takes a datagram, and answers its code and the frames replayed.
+    // Takes a datagram, and answers how it was accepted and the frames replayed.
+    pub fn try_take(
+        &mut self,
+        slots: Slots<'_, G::Input>,
+        bytes: &[u8],
+    ) -> Result<(Acceptance, u32), Refusal>
+        ensures answer { result ≡ or_refused (take_refusal (setting G.next G.Input.idle G.Input.reads G.Input.code H.guessed) (view K.kept self.old slots.entry.own.now slots.entry.other.now slots.entry.digests.now) bytes.now) (take_accepted (setting G.next G.Input.idle G.Input.reads G.Input.code H.guessed) (view K.kept self.old slots.entry.own.now slots.entry.other.now slots.entry.digests.now) bytes.now) }
+        ensures leaves { view K.kept self.new slots.exit.0.now slots.exit.1.0.now slots.exit.1.1.0.now ≡ take_leaves (setting G.next G.Input.idle G.Input.reads G.Input.code H.guessed) (view K.kept self.old slots.entry.own.now slots.entry.other.now slots.entry.digests.now) bytes.now }
+        ensures replays { IfOk result (λ x. Replays (setting G.next G.Input.idle G.Input.reads G.Input.code H.guessed) (view K.kept self.old slots.entry.own.now slots.entry.other.now slots.entry.digests.now) (view K.kept self.new slots.exit.0.now slots.exit.1.0.now slots.exit.1.1.0.now) x.1) }
+        ensures same { is_ok result ≡ false → self.new ≡ self.old }
+    {
+        if !slots.are_whole() {
+            return Err(Refusal::BadFrame);
+        }
+        let datagram = self.check_take(bytes)?;
+        let Slots {
+            own,
+            other,
+            digests,
+        } = slots;
+        let frames = self.catch_up(own, other, digests, &datagram)?;
+        Ok((self.judge(digests, &datagram), frames))
+    }
+
+    // The same, told by its number in the table, with slots taken apart as in `press`: the code and the frames replayed.
     pub fn take(&mut self, slots: Slots<'_, G::Input>, bytes: &[u8]) -> (u32, u32)
-        ensures answer { result ≡ take_answer (setting G.Game.next G.Input.InputKind.idle G.Input.InputKind.reads G.Input.InputKind.code H.GuessRule.guessed) (view K.Keeper.kept self.old slots.entry.own.now slots.entry.other.now slots.entry.digests.now) bytes.now }
-        ensures leaves { view K.Keeper.kept self.new slots.exit.0.now slots.exit.1.0.now slots.exit.1.1.0.now ≡ take_leaves (setting G.Game.next G.Input.InputKind.idle G.Input.InputKind.reads G.Input.InputKind.code H.GuessRule.guessed) (view K.Keeper.kept self.old slots.entry.own.now slots.entry.other.now slots.entry.digests.now) bytes.now }
-        ensures replays { Replays (setting G.Game.next G.Input.InputKind.idle G.Input.InputKind.reads G.Input.InputKind.code H.GuessRule.guessed) (view K.Keeper.kept self.old slots.entry.own.now slots.entry.other.now slots.entry.digests.now) (view K.Keeper.kept self.new slots.exit.0.now slots.exit.1.0.now slots.exit.1.1.0.now) result.1 }
+        ensures answer { result ≡ take_answer (setting G.next G.Input.idle G.Input.reads G.Input.code H.guessed) (view K.kept self.old slots.entry.own.now slots.entry.other.now slots.entry.digests.now) bytes.now }
+        ensures leaves { view K.kept self.new slots.exit.0.now slots.exit.1.0.now slots.exit.1.1.0.now ≡ take_leaves (setting G.next G.Input.idle G.Input.reads G.Input.code H.guessed) (view K.kept self.old slots.entry.own.now slots.entry.other.now slots.entry.digests.now) bytes.now }
+        ensures replays { Replays (setting G.next G.Input.idle G.Input.reads G.Input.code H.guessed) (view K.kept self.old slots.entry.own.now slots.entry.other.now slots.entry.digests.now) (view K.kept self.new slots.exit.0.now slots.exit.1.0.now slots.exit.1.1.0.now) result.1 }
         ensures same { Refused result.0 → self.new ≡ self.old }
     {
         let Slots {
@@ -163,17 +183,14 @@ impl<G: Game, K: Keeper<G>, H: GuessRule<G::Input>> Seat<G, K, H> {
             other,
             digests,
         } = slots;
-        if !are_slots(own.len(), other.len(), digests.len()) {
-            return (Refusal::BadFrame.number(), 0);
+        let lent = Slots {
+            own,
+            other,
+            digests,
+        };
+        match self.try_take(lent, bytes) {
+            Ok((how, frames)) => (how.number(), frames),
+            Err(why) => (why.number(), 0),
         }
-        let datagram = match self.check_take(bytes) {
-            Ok(datagram) => datagram,
-            Err(why) => return (why.number(), 0),
-        };
-        let frames = match self.catch_up(own, other, digests, &datagram) {
-            Ok(frames) => frames,
-            Err(why) => return (why.number(), 0),
-        };
-        (self.judge(digests, &datagram), frames)
     }
 }

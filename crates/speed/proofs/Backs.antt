@@ -1,17 +1,24 @@
 -- The trail of a frame leads back to the state before it.
-use Rattle.std.proofs.Common.{◌≡◌, ℕ, ◌+◌, ◌-◌, ◌*◌, ◌/◌, ◌%◌, ◌^◌, ◌<◌, ◌≤◌, true, false, cond, ◌&&◌, eqb, ◌⊎◌, List, length, take, drop, set, Some, None, sym, refl, ap, ◌∙◌, inl, inr, ⊎_elim, arith}
+use Rattle.std.proofs.Common.{◌≡◌, ℕ, ◌+◌, ◌-◌, ◌*◌, ◌/◌, ◌%◌, ◌^◌, ◌<◌, ◌≤◌, true, false, cond, ◌&&◌, eqb, ◌⊎◌, List, length, take, drop, set, Some, None, Option, IfSome, Bool, subst, sym, refl, ap, ◌∙◌, inl, inr, ⊎_elim, arith}
 use Rattle.std.proofs.lemmas.List.{get_or-set_same, get_or-set_other, length-set, ext_get_or, take-set-le}
+use Rattle.std.proofs.lemmas.Nat.{mod-mul-add, div-mul-add}
 use Rattle.std.proofs.lemmas.Bool.{cases_eq, cond_both, cond-true, cond-false, and_parts}
+use Rattle.std.specs.Bool.{then_some}
 use Rattle.interface.specs.Games.{State, if_lawful}
+use denote.Enum.Declared.{tag_of}
+use Rattle.speed.specs.contracts.places.Seat as seats
+use Rattle.speed.specs.declared.places.Seat.{Seat}
+use Rattle.speed.specs.declared.game.Speed.{Speed}
 use Rattle.speed.specs.declared.moves.Move.{Move}
 use Rattle.speed.specs.declared.moves.Move.TheVariants.{Idle, Play, CallTurn}
 use Rattle.speed.specs.Moves.{slot_number, pile_number}
-use Rattle.speed.specs.Places.{slot_at, draws_at, sides_at, top_at, parity_at, at, draws, sides, parity}
+use Rattle.speed.specs.Places.{seat_number, slot_at, draws_at, sides_at, top_at, parity_at, at, draws, sides, parity}
 use Rattle.speed.specs.Rules.{playable, played, moved, both_moved, turns, turned, sides_turned, flipped, over, next_state}
 use Rattle.speed.specs.Lawful.{permutation, limits, within, none_twice, in_play, lawful_state}
 use Rattle.speed.specs.Trails.{slot_of, seat_trail, trail_of, seat_back, put_back, undone_state}
-use Rattle.speed.proofs.Sound.{Sound, lawful_from, draws_le, held_le, top_lt}
-use Rattle.speed.proofs.Frames.{slot_lt, pile_lt, frame_follows, sound_turn}
+use Rattle.speed.proofs.Sound.{Sound, sound_of, lawful_from, draws_le, held_le, top_lt}
+use Rattle.speed.proofs.Numbers.{seat_tag, seat_lt, slot_lt, pile_lt}
+use Rattle.speed.proofs.Frames.{frame_follows, sound_turn}
 
 -- a move's slot is one of five
 slot_of_lt : (move : Move) → slot_of move < 5
@@ -64,26 +71,24 @@ back_at v w i x k inside is others =
     (λ apart. get_or-set_other v i k x 0 apart ∙ others apart)
     (cases_eq k i)
 
--- the word fits, with the slot as the code has it
-pub seat_trail_lt : (w : State) → Sound w → (seat : ℕ) (move : Move) (slot : ℕ) → seat < 2 → slot ≡ slot_of move → slot + 5 * (at w (slot_at seat slot) + 64 * (draws w seat + 16 * at w (top_at seat))) < 2 ^ 32
-seat_trail_lt w s seat move slot h is =
+-- the word fits, with the slot and the seat as the code has them
+pub seat_trail_lt : (g : Speed) (seat : Seat) (move : Move) (slot : ℕ) → slot ≡ slot_of move → slot + 5 * (at g.words (52 + 5 * tag_of seats.the_type seat + slot) + 64 * (at g.words (62 + tag_of seats.the_type seat) + 16 * at g.words (65 + tag_of seats.the_type seat))) < 2 ^ 32
+seat_trail_lt g seat move slot is =
+    let s = sound_of g in
+    let n : ℕ = seat_number seat in
     let below : slot < 5 = omega (arith, slot_of_lt move) in
-    omega (arith, held_le w s seat slot h below, draws_le w s seat h, top_lt w s seat h)
+    rw (seat_tag seat) (omega (arith, held_le g.words s n slot (seat_lt seat) below, draws_le g.words s n (seat_lt seat), top_lt g.words s n (seat_lt seat)))
 
 -- a seat's part of the trail
 seat_back_wide : (v : State) (seat trail : ℕ) → length (seat_back v seat trail) ≡ length v
 unfolding seat_back
 seat_back_wide v seat trail = length-set _ _ _ ∙ (length-set _ _ _ ∙ length-set v _ _)
 
--- the digits of a seat's word
-low_5 : (d x : ℕ) → d < 5 → ((d + 5 * x) % 5 ≡ d) × ((d + 5 * x) / 5 ≡ x)
-low_5 d x h = (omega arith, omega arith)
-
-low_64 : (d x : ℕ) → d < 64 → ((d + 64 * x) % 64 ≡ d) × ((d + 64 * x) / 64 ≡ x)
-low_64 d x h = (omega arith, omega arith)
-
-low_16 : (d x : ℕ) → d < 16 → ((d + 16 * x) % 16 ≡ d) × ((d + 16 * x) / 16 ≡ x)
-low_16 d x h = (omega arith, omega arith)
+-- the lowest digit of a seat's word, and what stands above it
+low : (n d x : ℕ) → d < n → ((d + n * x) % n ≡ d) × ((d + n * x) / n ≡ x)
+low n d x h =
+    let turned : d + n * x ≡ x * n + d = grind arith in
+    (ap (λ m. m % n) turned ∙ mod-mul-add x n d h, ap (λ m. m / n) turned ∙ div-mul-add x n d h)
 
 seat_back_at : (v w : State) → length v ≡ 68 → Sound w → (seat : ℕ) (move : Move) (k : ℕ) → seat < 2 → slot_of move < 5 → ((k ≡ slot_at seat (slot_of move) → ⊥) → (k ≡ draws_at seat → ⊥) → (k ≡ top_at seat → ⊥) → at v k ≡ at w k) → at (seat_back v seat (seat_trail w seat move)) k ≡ at w k
 unfolding seat_back
@@ -93,9 +98,9 @@ seat_back_at v w wide s seat move k h slot_below others =
     let card_le = held_le w s seat slot h slot_below in
     let draws_few = draws_le w s seat h in
     let upper : ℕ = draws w seat + 16 * at w (top_at seat) in
-    let one = low_5 slot (at w (slot_at seat slot) + 64 * upper) slot_below in
-    let two = low_64 (at w (slot_at seat slot)) upper (omega arith) in
-    let three = low_16 (draws w seat) (at w (top_at seat)) (omega arith) in
+    let one = low 5 slot (at w (slot_at seat slot) + 64 * upper) slot_below in
+    let two = low 64 (at w (slot_at seat slot)) upper (omega arith) in
+    let three = low 16 (draws w seat) (at w (top_at seat)) (omega arith) in
     let card_is : trail / 5 % 64 ≡ at w (slot_at seat slot) = ap (λ n. n % 64) one.1 ∙ two.0 in
     let rest : trail / 5 / 64 ≡ upper = ap (λ n. n / 64) one.1 ∙ two.1 in
     let draws_is : trail / 5 / 64 % 16 ≡ draws w seat = ap (λ n. n % 16) rest ∙ three.0 in
@@ -164,8 +169,16 @@ back_lawful w v trail lawful is =
     let whole : permutation (take 52 v) ≡ true = ap permutation (ap (take 52) is ∙ back_order w trail) ∙ (and_parts (permutation (take 52 w)) (within limits (drop 52 w) && none_twice (in_play w)) lawful).0 in
     ap (λ b. b && (within limits (drop 52 v) && none_twice (in_play v))) whole
 
-pub undone_none : (w v : State) (trail : List ℕ) → v ≡ put_back w trail → lawful_state v ≡ false → undone_state w trail ≡ None
-undone_none w v trail is fails = ap (if_lawful lawful_state) (sym is) ∙ cond-false (lawful_state v) (Some v) None fails
+pub undone_is : (w v : State) (trail : List ℕ) → v ≡ put_back w trail → then_some (lawful_state v) v ≡ undone_state w trail
+undone_is w v trail is = go (lawful_state v) ∙ ap (if_lawful lawful_state) is
+  where
+    go : (b : Bool) → then_some b v ≡ cond b (Some v) None
+    go true = refl
+    go false = refl
 
-pub undone_some : (w v : State) (trail : List ℕ) → v ≡ put_back w trail → lawful_state v ≡ true → undone_state w trail ≡ Some v
-undone_some w v trail is passes = ap (if_lawful lawful_state) (sym is) ∙ cond-true (lawful_state v) (Some v) None passes
+pub some_lawful : (v : State) (o : Option State) → length v ≡ 68 → o ≡ then_some (lawful_state v) v → IfSome o (λ before. (length before ≡ 68) × (lawful_state before ≡ true))
+some_lawful v o wide is = subst (λ o. IfSome o (λ before. (length before ≡ 68) × (lawful_state before ≡ true))) (sym is) (go (lawful_state v) refl)
+  where
+    go : (b : Bool) → lawful_state v ≡ b → IfSome (then_some b v) (λ before. (length before ≡ 68) × (lawful_state before ≡ true))
+    go true e = (wide, e)
+    go false e = tt

@@ -1,11 +1,11 @@
 -- The shuffle gives a permutation, and the deal a lawful state.
-use Rattle.std.proofs.Common.{◌≡◌, ℕ, zero, suc, ◌+◌, ◌-◌, ◌*◌, ◌/◌, ◌%◌, ◌^◌, ◌<◌, ◌≤◌, true, List, [], ◌∷◌, ◌++◌, length, take, drop, set, replicate, sym, refl, ap, ◌∙◌, ⊎_elim, arith}
-use borrow.Rule.Slice.PartMut.{put_mid}
+use Rattle.std.proofs.Common.{◌≡◌, ℕ, zero, suc, ◌+◌, ◌-◌, ◌*◌, ◌/◌, ◌%◌, ◌^◌, ◌<◌, ◌≤◌, true, List, [], ◌∷◌, ◌++◌, length, take, drop, replicate, sym, refl, ap, ◌∙◌, ⊎_elim, arith}
+use borrow.Rule.Slice.PartMut.{put_mid, same_len_mid}
 use Rattle.std.specs.List.{range_with_len, between, swap}
 use Rattle.std.proofs.lemmas.Nat.{mod_below}
 use Rattle.std.proofs.lemmas.List.FromFn.{length-range_with_len}
 use Rattle.std.proofs.lemmas.List.Edits.{length-swap, length-between, get_or-between}
-use Rattle.std.proofs.lemmas.List.{length-append, take-append-le, take_at, take_all, take-take, drop_at, drop-take, drop-drop, set-append_right, get_or_append_left, get_or-append_right}
+use Rattle.std.proofs.lemmas.List.{length-append, append_assoc, append-nil, take-append-le, take_at, take_all, take-take, drop_at, drop-take, drop-drop, get_or_append_left, get_or-append_right}
 use Rattle.std.proofs.lemmas.Slice.{between_is}
 use Rattle.std.proofs.lemmas.List.Sorted.{sum_by-IsPermutation, IsPermutation-swap}
 use Rattle.std.proofs.lemmas.Bool.{cases_eq, cases_lt, cond-true, eq-eqb}
@@ -85,29 +85,28 @@ shuffle_step i z order h =
     ∙ ap (λ y. shuffled_from j y (swap order (i - 1) (y / 65536 % (i - 1 + 1)))) stirs)
 
 -- the deal, with the code's writes
-tail_set : (xs ys zs : List ℕ) (j v : ℕ) → length xs ≡ 52 → length ys ≡ 10 → set (xs ++ (ys ++ zs)) (62 + j) v ≡ xs ++ (ys ++ set zs j v)
-tail_set xs ys zs j v long short =
-    let near : 62 + j - 52 ≡ 10 + j = omega arith in
-    let here : 10 + j - 10 ≡ j = omega arith in
-    set-append_right xs (ys ++ zs) 52 (62 + j) v long (omega arith)
-    ∙ ap (λ part. xs ++ part) (ap (λ k. set (ys ++ zs) k v) near ∙ (set-append_right ys zs 10 (10 + j) v short (omega arith) ∙ ap (λ k. ys ++ set zs k v) here))
+pub put_wide : (copy hands : List ℕ) → length copy ≡ 52 → length hands ≡ length (take 10 (drop 52 (copy ++ replicate 16 0))) → length (put_mid 52 10 (copy ++ replicate 16 0) hands) ≡ 68
+put_wide copy hands long short = same_len_mid 52 10 (copy ++ replicate 16 0) hands short ∙ omega (arith, length-append copy (replicate 16 0))
 
-pub deal_is : (order copy hands : List ℕ) → length order ≡ 52 → copy ≡ order → hands ≡ between 30 40 order → set (set (set (set (set (put_mid 52 10 (copy ++ replicate 16 0) hands) 62 15) 63 15) 64 5) 65 (at order 50)) 66 (at order 51) ≡ dealt order
+-- the code's writes, one behind the other
+dealt_parts : (order hands counts : List ℕ) → length order ≡ 52 → length hands ≡ 10 → length counts ≡ 6 → put_mid 62 6 (put_mid 52 10 (order ++ replicate 16 0) hands) counts ≡ order ++ (hands ++ counts)
+dealt_parts order hands counts long short few =
+    let first : put_mid 52 10 (order ++ replicate 16 0) hands ≡ order ++ (hands ++ replicate 6 0) =
+    ap (λ part. part ++ (hands ++ drop 10 (drop 52 (order ++ replicate 16 0)))) (take_at order (replicate 16 0) 52 long)
+    ∙ ap (λ part. order ++ (hands ++ drop 10 part)) (drop_at order (replicate 16 0) 52 long) in
+    let joined : length (order ++ hands) ≡ 62 = omega (arith, length-append order hands) in
+    let again : order ++ (hands ++ replicate 6 0) ≡ (order ++ hands) ++ replicate 6 0 = sym (append_assoc order hands (replicate 6 0)) in
+    ap (λ xs. put_mid 62 6 xs counts) (first ∙ again)
+    ∙ (ap (λ part. part ++ (counts ++ drop 6 (drop 62 ((order ++ hands) ++ replicate 6 0)))) (take_at (order ++ hands) (replicate 6 0) 62 joined)
+    ∙ (ap (λ part. (order ++ hands) ++ (counts ++ drop 6 part)) (drop_at (order ++ hands) (replicate 6 0) 62 joined)
+    ∙ (ap (λ part. (order ++ hands) ++ part) (append-nil counts) ∙ append_assoc order hands counts)))
+
+pub deal_is : (order copy hands counts : List ℕ) → length order ≡ 52 → copy ≡ order → hands ≡ between 30 40 order → counts ≡ (15 ∷ 15 ∷ 5 ∷ at order 50 ∷ at order 51 ∷ 0 ∷ []) → put_mid 62 6 (put_mid 52 10 (copy ++ replicate 16 0) hands) counts ≡ dealt order
 unfolding dealt
-deal_is order copy hands long copied held =
-    let short : length (between 30 40 order) ≡ 10 = length-between order 30 40 (omega arith) in
-    let put : (zs : List ℕ) (j v : ℕ) → set (order ++ (between 30 40 order ++ zs)) (62 + j) v ≡ order ++ (between 30 40 order ++ set zs j v) = λ zs j v. tail_set order (between 30 40 order) zs j v long short in
-    let base : put_mid 52 10 (copy ++ replicate 16 0) hands ≡ order ++ (between 30 40 order ++ replicate 6 0) =
-    ap (λ part. put_mid 52 10 (part ++ replicate 16 0) hands) copied
-    ∙ (ap (put_mid 52 10 (order ++ replicate 16 0)) held
-    ∙ (ap (λ part. part ++ (between 30 40 order ++ drop 10 (drop 52 (order ++ replicate 16 0)))) (take_at order (replicate 16 0) 52 long)
-    ∙ ap (λ part. order ++ (between 30 40 order ++ drop 10 part)) (drop_at order (replicate 16 0) 52 long))) in
-    ap (λ w. set (set (set (set (set w 62 15) 63 15) 64 5) 65 (at order 50)) 66 (at order 51)) base
-    ∙ (ap (λ w. set (set (set (set w 63 15) 64 5) 65 (at order 50)) 66 (at order 51)) (put (replicate 6 0) 0 15)
-    ∙ (ap (λ w. set (set (set w 64 5) 65 (at order 50)) 66 (at order 51)) (put (15 ∷ replicate 5 0) 1 15)
-    ∙ (ap (λ w. set (set w 65 (at order 50)) 66 (at order 51)) (put (15 ∷ 15 ∷ replicate 4 0) 2 5)
-    ∙ (ap (λ w. set w 66 (at order 51)) (put (15 ∷ 15 ∷ 5 ∷ replicate 3 0) 3 (at order 50))
-    ∙ put (15 ∷ 15 ∷ 5 ∷ at order 50 ∷ replicate 2 0) 4 (at order 51)))))
+deal_is order copy hands counts long copied held counted =
+    ap (λ xs. put_mid 62 6 (put_mid 52 10 (xs ++ replicate 16 0) hands) counts) copied
+    ∙ (dealt_parts order hands counts long (ap length held ∙ length-between order 30 40 (omega arith)) (ap length counted)
+    ∙ (ap (λ xs. order ++ (xs ++ counts)) held ∙ ap (λ xs. order ++ (between 30 40 order ++ xs)) counted))
 
 -- two parts that meet
 join : (card : ℕ) (xs : List ℕ) (a n m : ℕ) → times card (take n (drop a xs)) + times card (take m (drop (a + n) xs)) ≡ times card (take (n + m) (drop a xs))

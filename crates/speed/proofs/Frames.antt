@@ -1,31 +1,18 @@
 -- What follows from a whole frame.
-use Rattle.std.proofs.Common.{◌≡◌, ℕ, ◌<◌, ◌≤◌, true, false, not, ◌&&◌, eqb, List, [], ◌∷◌, sym, refl, ap, ◌∙◌, arith}
+use Rattle.std.proofs.Common.{◌≡◌, ℕ, ◌<◌, true, false, not, ◌&&◌, eqb, List, [], ◌∷◌, length, sym, refl, ap, ◌∙◌, arith}
 use Rattle.std.proofs.lemmas.Bool.{cond_both, cond-true, cond-false, and_parts, not-true, eqb-false, eq-eqb, ne_eqb}
 use Rattle.interface.specs.Games.{State}
-use Rattle.speed.specs.declared.moves.Slot.{Slot}
-use Rattle.speed.specs.declared.moves.Slot.TheVariants.{First, Second, Third, Fourth, Fifth}
-use Rattle.speed.specs.declared.moves.Pile.{Pile}
-use Rattle.speed.specs.declared.moves.Pile.TheVariants.{Left, Right}
 use Rattle.speed.specs.declared.moves.Move.{Move}
 use Rattle.speed.specs.declared.moves.Move.TheVariants.{Idle, Play, CallTurn}
 use Rattle.speed.specs.Moves.{slot_number, pile_number, calls}
-use Rattle.speed.specs.Places.{slot_at, top_at, at, draws, sides, parity}
+use Rattle.speed.specs.Places.{slot_at, top_at, at, sides, parity}
 use Rattle.speed.specs.Rules.{fits, playable, played, moved, both_moved, turns, turned, sides_turned, flipped, over, next_state}
+use Rattle.speed.specs.Lawful.{lawful_state}
 use Rattle.speed.specs.Laws.{run, Kept}
+use Rattle.speed.proofs.Numbers.{slot_lt, pile_lt}
 use Rattle.speed.proofs.Ends.{over_from}
-use Rattle.speed.proofs.Sound.{Sound, draws_le, sides_le, parity_le}
+use Rattle.speed.proofs.Sound.{Sound, lawful_from}
 use Rattle.speed.proofs.Keeps.{Follows, still, then, sound_after, play_follows, turn_follows, flip_follows}
-
-pub slot_lt : (slot : Slot) → slot_number slot < 5
-slot_lt First = omega arith
-slot_lt Second = omega arith
-slot_lt Third = omega arith
-slot_lt Fourth = omega arith
-slot_lt Fifth = omega arith
-
-pub pile_lt : (pile : Pile) → pile_number pile < 2
-pile_lt Left = omega arith
-pile_lt Right = omega arith
 
 pub move_follows : (w : State) → Sound w → (seat : ℕ) → seat < 2 → (move : Move) → Follows w (moved w seat move)
 unfolding moved
@@ -86,20 +73,13 @@ module _ (w : State) (s : Sound w) (first second : Move) where
   pub frame_sound : Sound (next_state w first second)
   frame_sound = sound_after w (next_state w first second) s frame_follows
 
--- the counts between the parts of a frame, and the definitions that the code's parts meet
-module _ (w : State) (s : Sound w) where
-  pub few_after : (v : State) (seat other : ℕ) (move : Move) → seat < 2 → other < 2 → v ≡ moved w seat move → draws v other ≤ 15
-  few_after v seat other move h g is =
-      omega (arith, ap (λ u. draws u other) is, (move_follows w s seat h move).draws_fall other g, draws_le w s other g)
+-- words that follow those of a lawful state are lawful
+pub still_lawful : (w v u : State) → Sound w → Follows w v → u ≡ v → (length u ≡ 68) × (lawful_state u ≡ true)
+still_lawful w v u s p is =
+    let after = sound_after w v s p in
+    (ap length is ∙ after.wide, ap lawful_state is ∙ lawful_from v after)
 
-  pub few_sides : (v : State) (first second : Move) → v ≡ both_moved w first second → sides v ≤ 5
-  few_sides v first second is = omega (arith, ap sides is, (both_follow w s first second).sides_fall, sides_le w s)
-
-  pub parity_after : (v u : State) (first second : Move) → v ≡ both_moved w first second → u ≡ sides_turned v first second → parity u ≤ 1
-  parity_after v u first second v_is u_is =
-      let e : parity u ≡ parity (after_turn w s first second) = ap parity (u_is ∙ ap (λ x. sides_turned x first second) v_is) in
-      omega (arith, parity_le (after_turn w s first second) (sound_turn w s first second))
-
+-- the definitions that the code's parts meet
 pub first_goes : (w v u : State) (first second : Move) → parity w ≡ 0 → v ≡ moved w 0 first → u ≡ moved v 1 second → u ≡ both_moved w first second
 unfolding both_moved
 first_goes w v u first second e v_is u_is =

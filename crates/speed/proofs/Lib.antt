@@ -4,6 +4,7 @@ pub mod Deals
 pub mod Ends
 pub mod Frames
 pub mod Keeps
+pub mod Numbers
 pub mod Packs
 pub mod Sets
 pub mod Sound

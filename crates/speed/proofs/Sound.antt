@@ -1,10 +1,12 @@
 -- What lawfulness says, fact by fact.
 use Rattle.std.proofs.Common.{◌≡◌, ℕ, zero, suc, ◌+◌, ◌*◌, ◌<◌, ◌≤◌, Bool, true, false, ◌&&◌, eqb, leb, List, [], ◌∷◌, length, take, drop, set, replicate, refl, ap, ◌∙◌, ⊎_elim, arith}
-use Rattle.std.proofs.lemmas.List.{get_or_append_left, get_or-replicate, get_or-drop, length-drop, length-take, get_or-take, get_or-set_same, get_or-set_other, drop_more}
-use Rattle.std.proofs.lemmas.Bool.{and_parts, and_from, eqb-true, eq-eqb, leb-true, le-leb, lt-leb, and_left, cases_eq, cases_Bool, both_ways}
+use Rattle.std.specs.List.{list_all, zip}
+use Rattle.std.proofs.lemmas.List.{get_or_append_left, get_or-replicate, get_or-drop, length-drop, length-take, get_or-take, get_or-set_same, get_or-set_other}
+use Rattle.std.proofs.lemmas.Bool.{and_parts, and_from, eqb-true, eq-eqb, leb-true, le-leb, cases_eq, cases_Bool, both_ways}
 use Rattle.interface.specs.Games.{State}
 use Rattle.speed.specs.Places.{slot_at, at, draws, sides, parity}
 use Rattle.speed.specs.Lawful.{times, each_below, in_play, limits, within, permutation, none_twice, lawful_state}
+use Rattle.speed.specs.declared.game.Speed.{Speed}
 use Rattle.speed.proofs.Packs.{pack_below}
 
 -- each word from 52 on is within its limit
@@ -49,16 +51,12 @@ within_from (l ∷ ls) [] long passes = absurd (omega arith)
 within_from (l ∷ ls) (w ∷ ws) long passes =
     and_from (leb w l) (within ls ws) (le-leb w l (passes 0 (omega arith))) (within_from ls ws (omega arith) (λ k h. passes (suc k) (omega arith)))
 
-within_step : (ls ws : List ℕ) (k j : ℕ) → k < length ls → j < length ws → within (drop k ls) (drop j ws) ≡ (leb (at ws j) (at ls k) && within (drop (k + 1) ls) (drop (j + 1) ws))
-within_step ls ws k j h g = ap (λ xs. within xs (drop j ws)) (drop_more ls k 0 h) ∙ ap (within (at ls k ∷ drop (k + 1) ls)) (drop_more ws j 0 g)
-
--- the word at a place, outside and within its limit
-pub over_limit : (ls ws : List ℕ) (k j : ℕ) → k < length ls → j < length ws → at ls k < at ws j → within (drop k ls) (drop j ws) ≡ false
-over_limit ls ws k j h g past = within_step ls ws k j h g ∙ and_left _ _ (lt-leb (at ws j) (at ls k) past)
-
-pub in_limit : (ls ws : List ℕ) (k j : ℕ) → k < length ls → j < length ws → at ws j ≤ at ls k → within (drop k ls) (drop j ws) ≡ within (drop (k + 1) ls) (drop (j + 1) ws)
-in_limit ls ws k j h g fits =
-    within_step ls ws k j h g ∙ ap (λ b. b && within (drop (k + 1) ls) (drop (j + 1) ws)) (le-leb (at ws j) (at ls k) fits)
+-- the test, word by word and limit by limit
+pub within_pairs : (ls ws : List ℕ) → length ls ≤ length ws → within ls ws ≡ list_all (λ p. leb p.0 p.1) (zip ws ls)
+within_pairs [] [] long = refl
+within_pairs [] (w ∷ ws) long = refl
+within_pairs (l ∷ ls) [] long = absurd (omega arith)
+within_pairs (l ∷ ls) (w ∷ ws) long = ap (λ b. leb w l && b) (within_pairs ls ws (omega arith))
 
 pub sixteen : length limits ≡ 16
 unfolding limits
@@ -75,6 +73,10 @@ sound w wide yes_lawful =
       ranged = λ k h. rw get_or-drop at (within_passes limits (drop 52 w) inner.0 k (omega (arith, sixteen)));
       apart = λ card h. leb-true _ _ (each_below_passes 52 (λ card. leb (times card (in_play w)) 1) inner.1 card h);
     }
+
+-- what the type of a game keeps
+pub sound_of : (g : Speed) → Sound g.words
+sound_of g = sound g.words g.wide g.lawful
 
 pub lawful_from : (w : State) → Sound w → lawful_state w ≡ true
 unfolding lawful_state

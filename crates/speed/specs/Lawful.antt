@@ -28,8 +28,8 @@ limits = replicate 10 52 ++ (15 ∷ 15 ∷ 5 ∷ 51 ∷ 51 ∷ 1 ∷ [])
 -- each word is within its limit
 abbrev pub within : List ℕ → List ℕ → Bool
 within [] ws = true
-within (limit ∷ limits) [] = false
-within (limit ∷ limits) (w ∷ ws) = nat_le w limit && within limits ws
+within (limit ∷ rest) [] = false
+within (limit ∷ rest) (w ∷ ws) = nat_le w limit && within rest ws
 
 -- each card of the pack stands in the order once
 abbrev pub permutation : List ℕ → Bool

@@ -1,6 +1,13 @@
 -- Where the words of a state stand, and what they are called. Words 0 to 51 are the order of the pack.
+-- The numbers are written out, so that no change of the code's constants changes what contracts say.
 use Rattle.std.specs.Prelude.{ℕ, ◌+◌, ◌*◌, List, slice_index}
 use Rattle.std.specs.List.{between}
+use Rattle.speed.specs.declared.places.Seat.{Seat}
+use Rattle.speed.specs.declared.places.Seat.TheVariants.{Zero, One}
+
+abbrev pub seat_number : Seat → ℕ
+seat_number Zero = 0
+seat_number One = 1
 
 -- the number that stands in a slot without a card; cards are 0 to 51
 abbrev pub empty_slot : ℕ

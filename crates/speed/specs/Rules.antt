@@ -1,5 +1,6 @@
 -- The rules of a frame.
-use Rattle.std.specs.Prelude.{ℕ, ◌+◌, ◌-◌, ◌%◌, Bool, true, cond, not, ◌&&◌, ◌||◌, List, [], ◌∷◌, ◌==◌, slice_set}
+use Rattle.std.specs.Prelude.{ℕ, ◌+◌, ◌-◌, ◌%◌, Bool, cond, not, ◌&&◌, ◌||◌, List, ◌==◌, slice_set}
+use Rattle.std.specs.List.{list_all}
 use Rattle.interface.specs.Games.{State}
 use Rattle.speed.specs.declared.moves.Move.{Move}
 use Rattle.speed.specs.declared.moves.Move.TheVariants.{Idle, Play, CallTurn}
@@ -50,8 +51,7 @@ abbrev pub flipped : State → State
 flipped w = slice_set w parity_at (1 - parity w)
 
 abbrev pub none_held : List ℕ → Bool
-none_held [] = true
-none_held (card ∷ rest) = card == empty_slot && none_held rest
+none_held cards = list_all (λ card. card == empty_slot) cards
 
 -- a seat has no card in hand and none to draw
 abbrev pub out_of_cards : State → ℕ → Bool

@@ -1,6 +1,5 @@
 // The game of Speed: its state and its calls.
 ghost use Rattle.std.specs.Prelude.{◌≡◌, ℕ, ◌-◌, ◌<◌, true, List, length, take, IfSome, Some};
-ghost use Rattle.std.specs.List.{slice_get};
 ghost use Rattle.speed.specs.declared.moves.Move.{Move as SpeedMove};
 ghost use Rattle.speed.specs.Places.{parity};
 ghost use Rattle.speed.specs.Lawful.{times, in_play, permutation, lawful_state};
@@ -8,21 +7,20 @@ ghost use Rattle.speed.specs.Opening.{opening_state};
 ghost use Rattle.speed.specs.Rules.{next_state};
 ghost use Rattle.speed.specs.Trails.{undone_state};
 ghost use Rattle.speed.specs.Laws.{GoesOn, Kept, run};
-ghost use Rattle.std.proofs.Common.{rules, arith};
+ghost use Rattle.std.proofs.Common.{rules};
 
 use crate::lawful::{is_lawful, is_playable};
 use crate::moves::Move;
 use crate::pack::{deal, shuffled_pack};
 use crate::places::Words;
-use crate::rules::advance;
-use crate::trails::{record_trail, restore_trail};
+use crate::trails::restore_trail;
 use interface::answers::Refusal;
 use interface::game::{Game, Trail};
 
 // A lawful state.
 #[derive(Clone, Copy)]
 pub struct Speed {
-    words: Words,
+    pub(crate) words: Words,
     ghost wide: { length words ≡ 68 },
     ghost lawful: { lawful_state words ≡ true },
 }
@@ -34,8 +32,9 @@ impl Speed {
         ensures shuffled { permutation (take 52 result.words) ≡ true }
         ensures whole_pack { (card : ℕ) → card < 52 → times card (in_play result.words) ≡ 1 }
     {
+        let order = shuffled_pack(seed);
         Speed {
-            words: opening_words(seed),
+            words: deal(&order),
         }
     }
 
@@ -47,7 +46,19 @@ impl Speed {
         ensures kept { (later : List (SpeedMove × SpeedMove)) → Kept self.old.words (run self.new.words later) }
         ensures alternates { GoesOn self.old.words → parity self.new.words ≡ 1 - parity self.old.words }
     {
-        play_frame(&mut self.words, first, second)
+        let trail = self.record_trail(first, second);
+        self.advance(first, second);
+        trail
+    }
+
+    // The words that a trail leads back to, if they are lawful. No trail changes the order of the pack, so the rest is tested.
+    fn undone_words(&self, trail: &Trail) -> Option<Words>
+        ensures state { result ≡ undone_state self.now.words trail.now }
+        ensures lawful { IfSome result (λ before. (length before ≡ 68) × (lawful_state before ≡ true)) }
+    {
+        let mut before = self.words;
+        restore_trail(&mut before, trail);
+        is_playable(&before).then_some(before)
     }
 }
 
@@ -56,7 +67,7 @@ impl Game for Speed {
 
     const W: u32 = 68;
 
-    ghost width = { 68 };
+    ghost W = { 68 };
 
     ghost words = { λ g. g.words };
 
@@ -68,17 +79,13 @@ impl Game for Speed {
 
     ghost undone = { undone_state };
 
-    ghost some_words = { first_of (Prim.search rules, Prim.grind (arith, Self.row.coded.inj)) };
+    ghost some_words = { Prim.search rules };
 
-    ghost few_words = { first_of (Prim.search rules, Prim.grind (arith, Self.row.coded.inj)) };
+    ghost few_words = { Prim.search rules };
 
-    ghost always_wide = { first_of (Prim.search rules, Prim.grind (arith, Self.row.coded.inj)) };
+    ghost always_wide = { Prim.search rules };
 
-    ghost always_lawful = { first_of (Prim.search rules, Prim.grind (arith, Self.row.coded.inj)) };
-
-    fn width() -> u32 {
-        Self::W
-    }
+    ghost always_lawful = { Prim.search rules };
 
     fn open(seed: u32) -> Speed {
         Speed::new(seed)
@@ -89,76 +96,22 @@ impl Game for Speed {
     }
 
     fn undo(&mut self, trail: &Trail) -> Result<(), Refusal> {
-        match undone_words(&self.words, trail) {
-            Some(words) => {
-                self.words = words;
-                Ok(())
-            }
-            None => Err(Refusal::Unlawful),
-        }
+        self.words = self.undone_words(trail).ok_or(Refusal::Unlawful)?;
+        Ok(())
     }
 
     fn word(&self, k: u32) -> Option<u32> {
-        word_at(&self.words, k)
+        self.words.get(k as usize).copied()
     }
 
     fn restore(&mut self, from: &[u32; 72]) -> Result<(), Refusal> {
         let mut words = [0; 68];
         words.copy_from_slice(&from[0..68]);
+        // A guard: `then_some(words).ok_or(..)?` would say no more.
         if !is_lawful(&words) {
             return Err(Refusal::Unlawful);
         }
         self.words = words;
         Ok(())
-    }
-}
-
-fn opening_words(seed: u32) -> Words
-    ensures opening { result ≡ opening_state seed }
-    ensures wide { length result ≡ 68 }
-    ensures lawful { lawful_state result ≡ true }
-    ensures shuffled { permutation (take 52 result) ≡ true }
-    ensures whole_pack { (card : ℕ) → card < 52 → times card (in_play result) ≡ 1 }
-{
-    let order = shuffled_pack(seed);
-    deal(&order)
-}
-
-fn play_frame(words: &mut Words, first: Move, second: Move) -> Trail
-    requires { lawful_state words.old ≡ true }
-    ensures state { words.new ≡ next_state words.old first second }
-    ensures wide { length words.new ≡ 68 }
-    ensures lawful { lawful_state words.new ≡ true }
-    ensures trail { undone_state words.new result ≡ Some words.old }
-    ensures kept { (later : List (SpeedMove × SpeedMove)) → Kept words.old (run words.new later) }
-    ensures alternates { GoesOn words.old → parity words.new ≡ 1 - parity words.old }
-{
-    let trail = record_trail(words, first, second);
-    advance(words, first, second);
-    trail
-}
-
-// The words that a trail leads back to, if they are lawful. No trail changes the order of the pack, so the rest is tested.
-fn undone_words(words: &Words, trail: &Trail) -> Option<Words>
-    requires { lawful_state words.now ≡ true }
-    ensures state { result ≡ undone_state words.now trail.now }
-    ensures lawful { IfSome result (λ before. (length before ≡ 68) × (lawful_state before ≡ true)) }
-{
-    let mut before = *words;
-    restore_trail(&mut before, trail);
-    if is_playable(&before) {
-        Some(before)
-    } else {
-        None
-    }
-}
-
-fn word_at(words: &Words, k: u32) -> Option<u32>
-    ensures { result ≡ slice_get words.now k }
-{
-    if k < 68 {
-        Some(words[k as usize])
-    } else {
-        None
     }
 }

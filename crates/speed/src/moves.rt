@@ -8,44 +8,49 @@ use interface::input::InputKind;
 // One of the five cards of a hand.
 #[derive(Clone, Copy, PartialEq, Eq, Debug)]
 pub enum Slot {
-    First,
-    Second,
-    Third,
-    Fourth,
-    Fifth,
+    First = 0,
+    Second = 1,
+    Third = 2,
+    Fourth = 3,
+    Fifth = 4,
 }
 
 impl Slot {
+    // All slots, each at the place of its number.
+    // By number: a number leads to no case by a cast.
+    const ALL: [Slot; 5] = [
+        Slot::First,
+        Slot::Second,
+        Slot::Third,
+        Slot::Fourth,
+        Slot::Fifth,
+    ];
+
     // The slot's place in the hand, from 0.
     pub fn number(self) -> usize
         ensures { result ≡ slot_number self }
     {
-        match self {
-            Slot::First => 0,
-            Slot::Second => 1,
-            Slot::Third => 2,
-            Slot::Fourth => 3,
-            Slot::Fifth => 4,
-        }
+        self as usize
     }
 }
 
 // One of the two piles in the middle.
 #[derive(Clone, Copy, PartialEq, Eq, Debug)]
 pub enum Pile {
-    Left,
-    Right,
+    Left = 0,
+    Right = 1,
 }
 
 impl Pile {
-    // 0 for left, 1 for right.
+    // Both piles, each at the place of its number.
+    // By number, as `Slot::ALL`.
+    const BOTH: [Pile; 2] = [Pile::Left, Pile::Right];
+
+    // 0 for left, 1 for right. A trait of this and the slot's number would be longer than both.
     pub fn number(self) -> usize
         ensures { result ≡ pile_number self }
     {
-        match self {
-            Pile::Left => 0,
-            Pile::Right => 1,
-        }
+        self as usize
     }
 }
 
@@ -63,10 +68,7 @@ impl Move {
     pub fn calls_turn(self) -> bool
         ensures { result ≡ calls self }
     {
-        match self {
-            Move::Idle | Move::Play { .. } => false,
-            Move::CallTurn => true,
-        }
+        matches!(self, Move::CallTurn)
     }
 }
 
@@ -88,46 +90,13 @@ impl InputKind for Move {
     fn read(number: u16) -> Option<Move> {
         match number {
             0 => Some(Move::Idle),
-            1 => Some(Move::Play {
-                slot: Slot::First,
-                pile: Pile::Left,
-            }),
-            2 => Some(Move::Play {
-                slot: Slot::First,
-                pile: Pile::Right,
-            }),
-            3 => Some(Move::Play {
-                slot: Slot::Second,
-                pile: Pile::Left,
-            }),
-            4 => Some(Move::Play {
-                slot: Slot::Second,
-                pile: Pile::Right,
-            }),
-            5 => Some(Move::Play {
-                slot: Slot::Third,
-                pile: Pile::Left,
-            }),
-            6 => Some(Move::Play {
-                slot: Slot::Third,
-                pile: Pile::Right,
-            }),
-            7 => Some(Move::Play {
-                slot: Slot::Fourth,
-                pile: Pile::Left,
-            }),
-            8 => Some(Move::Play {
-                slot: Slot::Fourth,
-                pile: Pile::Right,
-            }),
-            9 => Some(Move::Play {
-                slot: Slot::Fifth,
-                pile: Pile::Left,
-            }),
-            10 => Some(Move::Play {
-                slot: Slot::Fifth,
-                pile: Pile::Right,
-            }),
+            1..=10 => {
+                let play = number as usize - 1;
+                Some(Move::Play {
+                    slot: Slot::ALL[play / 2],
+                    pile: Pile::BOTH[play % 2],
+                })
+            }
             11 => Some(Move::CallTurn),
             _ => None,
         }
@@ -136,7 +105,7 @@ impl InputKind for Move {
     fn code(self) -> u16 {
         match self {
             Move::Idle => 0,
-            Move::Play { slot, pile } => 1 + 2 * slot.number() as u16 + pile.number() as u16,
+            Move::Play { slot, pile } => 1 + 2 * slot as u16 + pile as u16,
             Move::CallTurn => 11,
         }
     }

@@ -1,48 +1,48 @@
 -- Pieces put together, and parted again.
-use Rattle.std.proofs.Common.{◌≡◌, ℕ, zero, suc, ◌<◌, Bool, true, false, cond, eqb, List, [], ◌∷◌, ◌++◌, length, take, sym, refl, ap, ◌∙◌, arith}
-use Rattle.std.specs.List.{AllByRecursion}
-use Rattle.std.proofs.lemmas.Bool.{eqb-true, eq-eqb}
-use Rattle.trace.specs.Pieces.{line_feed, begin, pieces, joined_by}
+use Rattle.std.proofs.Common.{◌≡◌, ℕ, zero, suc, ◌+◌, ◌-◌, ◌<◌, ◌≤◌, Bool, true, false, cond, eqb, ltb, List, [], ◌∷◌, ◌++◌, length, take, drop, None, Some, refl, ap, ◌∙◌, arith}
+use Rattle.std.specs.List.{AllByRecursion, onto_first, position, position_or_len}
+use Rattle.std.proofs.lemmas.Bool.{eq-eqb, ltb-true, ltb-false}
+use Rattle.std.proofs.lemmas.Option.{cond_some}
+use Rattle.std.proofs.lemmas.List.{length-take-le, take_rest}
+use Rattle.std.proofs.lemmas.List.Sums.{fails_before_first}
+use Rattle.std.proofs.lemmas.List.Elements.{All-from_recursion}
+use Rattle.std.proofs.lemmas.List.Splits.{slice_split_none, slice_split_at, slice_split_first, length-slice_split}
+use Rattle.trace.specs.Pieces.{line_feed, pieces, placed, joined_by}
 use Rattle.trace.specs.Writing.{ended_lines}
-use Rattle.trace.proofs.Splits.{onto, onto_none}
 
 -- no byte of the list parts it
 abbrev pub Free : ℕ → List ℕ → Type 0
 Free s w = AllByRecursion (λ b. eqb b s ≡ false) w
 
-pub some_pieces : (ps : List (List ℕ)) → ps ≡ onto [] ps → 0 < length ps
-some_pieces [] e = let z : ◌≡◌ {A = ℕ} 0 1 = cc in absurd (omega arith)
-some_pieces (p ∷ ps) e = omega arith
-
 pub pieces_some : (s : ℕ) (bs : List ℕ) → 0 < length (pieces s bs)
-pieces_some s bs = some_pieces (pieces s bs) (onto_none s bs)
+pieces_some s bs = omega (arith, length-slice_split (λ b. eqb b s) bs)
 
--- the pieces of a text, put together, are the text
-join_begin : (s b : ℕ) (ps : List (List ℕ)) → joined_by s (begin b ps) ≡ b ∷ joined_by s ps
-join_begin s b [] = refl
-join_begin s b (p ∷ []) = refl
-join_begin s b (p ∷ q ∷ ps) = refl
+none_found : (t : Bool) (n : ℕ) → cond t (Some n) None ≡ None → t ≡ false
+none_found true n e = cc
+none_found false n e = refl
 
-join_empty : (s : ℕ) (ps : List (List ℕ)) → 0 < length ps → joined_by s ([] ∷ ps) ≡ s ∷ joined_by s ps
-join_empty s [] h = absurd (omega arith)
-join_empty s (p ∷ ps) h = refl
+-- the first piece, by the place of the first byte that parts
+pub pieces_never : (s : ℕ) (bs : List ℕ) → position (λ b. eqb b s) bs ≡ None → pieces s bs ≡ bs ∷ []
+pieces_never s bs e =
+    let p : ℕ → Bool = λ b. eqb b s in
+    let far : length bs ≤ position_or_len p bs = ltb-false (position_or_len p bs) (length bs) (none_found (ltb (position_or_len p bs) (length bs)) _ e) in
+    slice_split_none p bs (λ k d h. fails_before_first p bs k d (omega arith))
 
-join_at : (t : Bool) (s b : ℕ) (ps : List (List ℕ)) → 0 < length ps → (t ≡ true → b ≡ s) → joined_by s (cond t ([] ∷ ps) (begin b ps)) ≡ b ∷ joined_by s ps
-join_at true s b ps h e = join_empty s ps h ∙ ap (λ x. x ∷ joined_by s ps) (sym (e refl))
-join_at false s b ps h e = join_begin s b ps
+-- of `bytes[..i]`, and of `bytes[i + 1..]` after it
+pub placed_at : (s at : ℕ) (bs : List ℕ) (i : ℕ) → position (λ b. eqb b s) bs ≡ Some i → placed at (pieces s bs) ≡ record { bytes = take i bs; at = at } ∷ placed (at + i + 1) (pieces s (take (length bs - (i + 1)) (drop (i + 1) bs)))
+placed_at s at bs i e =
+    let p : ℕ → Bool = λ b. eqb b s in
+    let q = cond_some _ _ _ e in
+    let near : position_or_len p bs < length bs = ltb-true _ _ q.0 in
+    let size : length (take i bs) ≡ i = length-take-le i bs (omega (arith, q.1)) in
+    ap (placed at) (slice_split_first p bs 0 near ∙ ap (λ k. take k bs ∷ pieces s (drop (k + 1) bs)) q.1) ∙ rw (size, take_rest bs (i + 1)) refl
 
-pub join_pieces : (s : ℕ) (bs : List ℕ) → joined_by s (pieces s bs) ≡ bs
-join_pieces s [] = refl
-join_pieces s (b ∷ bs) = join_at (eqb b s) s b (pieces s bs) (pieces_some s bs) (eqb-true b s) ∙ ap (λ x. b ∷ x) (join_pieces s bs)
+-- the pieces of what was put together are the same
+pieces_lone : (s : ℕ) (w : List ℕ) → Free s w → pieces s w ≡ w ∷ []
+pieces_lone s w h = slice_split_none (λ b. eqb b s) w (All-from_recursion (λ b. eqb b s ≡ false) w h)
 
--- and the pieces of what was put together are the same
-pub pieces_lone : (s : ℕ) (w : List ℕ) → Free s w → pieces s w ≡ w ∷ []
-pieces_lone s [] h = refl
-pieces_lone s (b ∷ w) h = ap (λ t. cond t ([] ∷ pieces s w) (begin b (pieces s w))) h.0 ∙ ap (begin b) (pieces_lone s w h.1)
-
-pub pieces_first : (s : ℕ) (w bs : List ℕ) → Free s w → pieces s (w ++ s ∷ bs) ≡ w ∷ pieces s bs
-pieces_first s [] bs h = ap (λ t. cond t ([] ∷ pieces s bs) (begin s (pieces s bs))) (eq-eqb s s refl)
-pieces_first s (b ∷ w) bs h = ap (λ t. cond t ([] ∷ pieces s (w ++ s ∷ bs)) (begin b (pieces s (w ++ s ∷ bs)))) h.0 ∙ ap (begin b) (pieces_first s w bs h.1)
+pieces_first : (s : ℕ) (w bs : List ℕ) → Free s w → pieces s (w ++ s ∷ bs) ≡ w ∷ pieces s bs
+pieces_first s w bs h = slice_split_at (λ b. eqb b s) w s bs (All-from_recursion (λ b. eqb b s ≡ false) w h) (eq-eqb s s refl)
 
 pub pieces_join : (s : ℕ) (w : List ℕ) (ws : List (List ℕ)) → Free s w → AllByRecursion (Free s) ws → pieces s (joined_by s (w ∷ ws)) ≡ w ∷ ws
 pieces_join s w [] h hs = pieces_lone s w h
@@ -53,11 +53,11 @@ pieces_lines [] h = refl
 pieces_lines (l ∷ ls) h = pieces_first line_feed l (ended_lines ls) h.0 ∙ ap (λ x. l ∷ x) (pieces_lines ls h.1)
 
 -- no piece has a byte that parts
-free_begin : (s b : ℕ) (ps : List (List ℕ)) → eqb b s ≡ false → AllByRecursion (Free s) ps → AllByRecursion (Free s) (begin b ps)
+free_begin : (s b : ℕ) (ps : List (List ℕ)) → eqb b s ≡ false → AllByRecursion (Free s) ps → AllByRecursion (Free s) (onto_first b ps)
 free_begin s b [] e h = ((e, tt), tt)
 free_begin s b (p ∷ ps) e h = ((e, h.0), h.1)
 
-free_at : (t : Bool) (s b : ℕ) (ps : List (List ℕ)) → (t ≡ false → eqb b s ≡ false) → AllByRecursion (Free s) ps → AllByRecursion (Free s) (cond t ([] ∷ ps) (begin b ps))
+free_at : (t : Bool) (s b : ℕ) (ps : List (List ℕ)) → (t ≡ false → eqb b s ≡ false) → AllByRecursion (Free s) ps → AllByRecursion (Free s) (cond t ([] ∷ ps) (onto_first b ps))
 free_at true s b ps e h = (tt, h)
 free_at false s b ps e h = free_begin s b ps (e refl) h
 

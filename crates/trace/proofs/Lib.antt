@@ -1,8 +1,4 @@
-pub mod Splits
-pub mod Values
-pub mod Taken
 pub mod Readings
-pub mod Turns
 pub mod Writings
 pub mod Joins
 pub mod Decimals

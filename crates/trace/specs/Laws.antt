@@ -1,6 +1,6 @@
 -- What ties reading to writing, and where a fault lies.
 use Rattle.std.specs.Prelude.{◌≡◌, ℕ, ◌+◌, ◌-◌, ◌^◌, ◌<◌, ◌≤◌, cond, ◌⊎◌, List, [], ◌∷◌, ◌++◌, length, take, Some, None, codes, Option, ◌==◌, ◌≢◌, slice_index_or}
-use Rattle.std.specs.List.{AllByRecursion}
+use Rattle.std.specs.List.{All}
 use Rattle.interface.specs.declared.answers.Refusal.TheVariants.{BadNumber}
 use Rattle.trace.specs.declared.forms.First.{First}
 use Rattle.trace.specs.declared.forms.TraceTurn.{TraceTurn}
@@ -56,12 +56,12 @@ pub record Lies (text : List ℕ) (x : Fault) : Type 0 where
 -- of a text and what was read of it
 pub record Faithful (text : List ℕ) (r : Reading) : Type 0 where
   -- what was written from a first line and turns reads back to them
-  pub returned : (f : First) (ts : List TraceTurn) → FirstFits f → AllByRecursion TurnFits ts → text ≡ text_of f ts → r ≡ says_all (Some f) ts
+  pub returned : (f : First) (ts : List TraceTurn) → FirstFits f → All TurnFits ts → text ≡ text_of f ts → r ≡ says_all (Some f) ts
   -- a text without fault is exactly what writing gives
   pub exact : (f : First) → r.first ≡ Some f → r.fault ≡ None → text ≡ text_of f r.turns
   -- there is a first line, or a fault
   pub first_or_fault : r.fault ≡ None → (f : First) × (r.first ≡ Some f)
-  pub fits : AllByRecursion TurnFits r.turns
+  pub fits : All TurnFits r.turns
   pub first_fits : (f : First) → r.first ≡ Some f → FirstFits f
   pub lies : (x : Fault) → r.fault ≡ Some x → Lies text x
   -- the lines before the fault have none: they read, with an `end` after them or ending with one, to the very turns

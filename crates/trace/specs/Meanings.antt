@@ -1,13 +1,7 @@
 -- What the types of src/ mean.
-use Rattle.std.specs.Borrow.{Bor}
 use Rattle.std.specs.Prelude.{◌≡◌, ℕ, ◌+◌, List, [], length, Some, None, Option}
 use Rattle.trace.specs.declared.part.Part.{Part}
 use Rattle.trace.specs.Pieces.{Piece, pieces, placed}
-
--- the pieces of what is left after the first one
-abbrev pub pieces_left : ℕ → Option (Bor (List ℕ)) → List (List ℕ)
-pieces_left s None = []
-pieces_left s (Some rest) = pieces s rest.now
 
 abbrev pub piece : Part → Piece
 piece p = record { bytes = p.bytes.now; at = p.at }
@@ -20,11 +14,6 @@ parted s p = placed p.at (pieces s p.bytes.now)
 abbrev pub parts_left : ℕ → Option Part → List Piece
 parts_left s None = []
 parts_left s (Some rest) = parted s rest
-
--- of a text of n bytes, the first piece of m, and the rest
-abbrev pub Lengths : ℕ → ℕ → Option (Bor (List ℕ)) → Type 0
-Lengths n m None = n ≡ m
-Lengths n m (Some rest) = n ≡ m + 1 + length rest.now
 
 -- the place after a part's last byte
 abbrev pub end_of : Part → ℕ

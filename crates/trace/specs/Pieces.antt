@@ -1,5 +1,6 @@
 -- A text parted at every place where one byte stands: lines at byte 10, words at the space.
-use Rattle.std.specs.Prelude.{ℕ, ◌+◌, cond, List, [], ◌∷◌, ◌++◌, length, ◌==◌}
+use Rattle.std.specs.Prelude.{ℕ, ◌+◌, List, [], ◌∷◌, length, ◌==◌}
+use Rattle.std.specs.List.{slice_split, join_with_byte}
 
 abbrev pub line_feed : ℕ
 line_feed = 10
@@ -7,21 +8,13 @@ line_feed = 10
 abbrev pub space : ℕ
 space = 32
 
--- one byte more at the front of the first piece
-abbrev pub begin : ℕ → List (List ℕ) → List (List ℕ)
-begin b [] = (b ∷ []) ∷ []
-begin b (p ∷ ps) = (b ∷ p) ∷ ps
-
 -- the pieces between the bytes that equal s: one more than there are such bytes, some of them perhaps empty
 abbrev pub pieces : ℕ → List ℕ → List (List ℕ)
-pieces s [] = [] ∷ []
-pieces s (b ∷ bs) = cond (b == s) ([] ∷ pieces s bs) (begin b (pieces s bs))
+pieces s bs = slice_split (λ b. b == s) bs
 
 -- pieces put together again, with s between them
 abbrev pub joined_by : ℕ → List (List ℕ) → List ℕ
-joined_by s [] = []
-joined_by s (p ∷ []) = p
-joined_by s (p ∷ q ∷ ps) = p ++ s ∷ joined_by s (q ∷ ps)
+joined_by s ps = join_with_byte s ps
 
 -- a piece, with the place of its first byte in the text
 pub record Piece : Type 0 where

@@ -1,15 +1,14 @@
 -- A whole text, line by line.
-use Rattle.std.specs.Prelude.{ℕ, ◌+◌, List, [], ◌∷◌, Some, None, Option}
+use Rattle.std.specs.Prelude.{ℕ, ◌+◌, List, [], ◌∷◌, Some, None, Ok, Err, Option}
 use Rattle.interface.specs.declared.answers.Refusal.{Refusal}
 use Rattle.interface.specs.declared.answers.Refusal.TheVariants.{BadFirstLine, BadLine, BadNumber, BadEnding}
 use Rattle.trace.specs.declared.forms.First.{First}
 use Rattle.trace.specs.declared.forms.TraceTurn.{TraceTurn}
 use Rattle.trace.specs.declared.forms.Fault.{Fault}
-use Rattle.trace.specs.declared.line.Verdict.{Verdict}
-use Rattle.trace.specs.declared.line.Verdict.TheVariants.{Turn, End, Misshapen, BadNumber as NoNumber}
+use Rattle.trace.specs.declared.line.Mistake.TheVariants.{Misshapen, BadNumber as NoNumber}
 use Rattle.trace.specs.Pieces.{Piece, line_feed, pieces, placed}
 use Rattle.trace.specs.Tokens.{words}
-use Rattle.trace.specs.Lines.{verdict, first_of}
+use Rattle.trace.specs.Lines.{Verdict, verdict, first_of}
 
 -- what lines after the first give: the turns before the first fault, and that fault
 pub record Rest : Type 0 where
@@ -27,10 +26,9 @@ after_turn t r = record { turns = t ∷ r.turns; fault = r.fault }
 
 -- what is wrong with a line that lacks its line feed, or stands after `end`
 abbrev pub out_of_place : Verdict → Refusal
-out_of_place (Turn t) = BadEnding
-out_of_place End = BadEnding
-out_of_place Misshapen = BadLine
-out_of_place (NoNumber at) = BadEnding
+out_of_place (Ok turn) = BadEnding
+out_of_place (Err Misshapen) = BadLine
+out_of_place (Err (NoNumber at)) = BadEnding
 
 -- what follows the last line feed is nothing, or a line without one
 abbrev pub tail_of : List ℕ → Rest → Rest → Rest
@@ -45,10 +43,10 @@ after_end line (p ∷ q ∷ ps) = stopped (out_of_place (verdict p)) line p.at
 
 -- a line with its line feed: what it is, where it stands, what follows if it is a turn, and what if it is `end`
 abbrev pub judged : Verdict → ℕ → ℕ → Rest → Rest → Rest
-judged (Turn t) line at more over = after_turn t more
-judged End line at more over = over
-judged Misshapen line at more over = stopped BadLine line at
-judged (NoNumber place) line at more over = stopped BadNumber line place
+judged (Ok (Some t)) line at more over = after_turn t more
+judged (Ok None) line at more over = over
+judged (Err Misshapen) line at more over = stopped BadLine line at
+judged (Err (NoNumber place)) line at more over = stopped BadNumber line place
 
 -- the lines of a text from a line number on: the last piece is what follows the last line feed
 abbrev pub read_lines : ℕ → List Piece → Rest

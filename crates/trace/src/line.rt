@@ -1,10 +1,9 @@
 // What a line is.
-ghost use Rattle.std.specs.Prelude.{◌≡◌, ◌^◌, ◌<◌, [], ◌∷◌};
-ghost use Rattle.trace.specs.Lines.{seat_and_number, sends, calls, verdict_of, verdict, game_in, first_by, first_of};
-ghost use Rattle.trace.specs.declared.forms.TraceCall.TheVariants.{Press, Take};
-ghost use Rattle.trace.specs.Tokens.{place, seat_in, words, short_in, number_in};
-ghost use Rattle.trace.specs.Numbers.{most_32};
-ghost use Rattle.trace.specs.Meanings.{piece, end_of};
+ghost use Rattle.std.specs.Prelude.{◌≡◌, [], ◌∷◌, MatchResult};
+ghost use Rattle.trace.specs.declared.forms.TraceCall.{TraceCall};
+ghost use Rattle.trace.specs.Lines.{found, seat_and_number, verdict_of, verdict, game_in, first_of};
+ghost use Rattle.trace.specs.Tokens.{place, seat_in, words};
+ghost use Rattle.trace.specs.Meanings.{piece};
 ghost use Rattle.trace.specs.Kept.{kept};
 
 use crate::forms::{First, GameName, TraceCall, TraceTurn};
@@ -12,108 +11,89 @@ use crate::part::Part;
 use crate::token::Token;
 use crate::words::Words;
 
-#[derive(Clone, Copy)]
-pub(crate) enum Verdict {
-    Turn(TraceTurn),
-    End,
+// Why a line after the first is none.
+#[derive(Clone, Copy, Debug)]
+pub(crate) enum Mistake {
     // No such first word with so many words.
     Misshapen,
     // The place of the first word that is no such number.
     BadNumber(usize),
 }
 
+// The seat that the word names.
+fn seat_of(word: Token) -> Result<bool, Mistake>
+    ensures { result ≡ found (place (kept word.entry)) (seat_in (kept word.entry)) }
+{
+    word.seat().ok_or(Mistake::BadNumber(word.place()))
+}
+
 // A seat and a number of 16 bits, or the place of the first that is none.
-fn seat_and_number(seat: Token, number: Token) -> Result<(bool, u16), usize>
+fn seat_and_number(seat: Token, number: Token) -> Result<(bool, u16), Mistake>
     ensures { result ≡ seat_and_number (kept seat.entry) (kept number.entry) }
 {
-    let Some(s) = seat.seat() else {
-        return Err(seat.place());
-    };
-    let Some(n) = number.short() else {
-        return Err(number.place());
-    };
-    Ok((s, n))
+    Ok((
+        seat_of(seat)?,
+        number.short().ok_or(Mistake::BadNumber(number.place()))?,
+    ))
 }
 
-fn press(seat: Token, code: Token) -> Verdict
-    ensures { result ≡ calls Press (seat_and_number (kept seat.entry) (kept code.entry)) }
+// A turn whose call has a number.
+fn numbered<F: Fn(u16) -> TraceCall>(
+    call: F,
+    seat: Token,
+    number: Token,
+) -> Result<Option<TraceTurn>, Mistake>
+    requires { F.IsAlwaysCallable call }
+    ensures { MatchResult (seat_and_number (kept seat.entry) (kept number.entry)) (λ x. (c : TraceCall) × F.post call x.1 c × (result ≡ Ok (Some (record { seat = x.0; call = c })))) (λ m. result ≡ Err m) }
 {
-    match seat_and_number(seat, code) {
-        Ok((seat, code)) => Verdict::Turn(TraceTurn {
-            seat,
-            call: TraceCall::Press(code),
-        }),
-        Err(at) => Verdict::BadNumber(at),
-    }
+    let (seat, number) = seat_and_number(seat, number)?;
+    Ok(Some(TraceTurn {
+        seat,
+        call: call(number),
+    }))
 }
 
-fn take(seat: Token, datagram: Token) -> Verdict
-    ensures { result ≡ calls Take (seat_and_number (kept seat.entry) (kept datagram.entry)) }
+// What a line of two words is.
+fn judge_two(name: Token, second: Token) -> Result<Option<TraceTurn>, Mistake>
+    ensures { result ≡ verdict_of (kept name.entry ∷ kept second.entry ∷ []) }
 {
-    match seat_and_number(seat, datagram) {
-        Ok((seat, datagram)) => Verdict::Turn(TraceTurn {
-            seat,
-            call: TraceCall::Take(datagram),
-        }),
-        Err(at) => Verdict::BadNumber(at),
+    if !name.is(b"send") {
+        return Err(Mistake::Misshapen);
     }
-}
-
-fn send(seat: Token) -> Verdict
-    ensures { result ≡ sends (place (kept seat.entry)) (seat_in (kept seat.entry)) }
-{
-    match seat.seat() {
-        Some(seat) => Verdict::Turn(TraceTurn {
-            seat,
-            call: TraceCall::Send,
-        }),
-        None => Verdict::BadNumber(seat.place()),
-    }
+    Ok(Some(TraceTurn {
+        seat: seat_of(second)?,
+        call: TraceCall::Send,
+    }))
 }
 
 // What a line of three words is.
-fn judge_three(name: Token, second: Token, third: Token) -> Verdict
-    ensures { result ≡ verdict_of (kept name.entry ∷ kept second.entry ∷ kept third.entry ∷ []) }
+fn judge_three(name: Token, seat: Token, number: Token) -> Result<Option<TraceTurn>, Mistake>
+    ensures { result ≡ verdict_of (kept name.entry ∷ kept seat.entry ∷ kept number.entry ∷ []) }
 {
     if name.is(b"press") {
-        press(second, third)
+        numbered(TraceCall::Press, seat, number)
     } else if name.is(b"take") {
-        take(second, third)
+        numbered(TraceCall::Take, seat, number)
     } else {
-        Verdict::Misshapen
+        Err(Mistake::Misshapen)
     }
 }
 
-// What a line after the first is.
-pub(crate) fn judge(line: Part) -> Verdict
-    requires { end_of line < 2 ^ 64 }
+// What a line after the first is: its turn, or nothing where it is `end`.
+pub(crate) fn judge(line: Part) -> Result<Option<TraceTurn>, Mistake>
     ensures { result ≡ verdict (piece line.entry) }
 {
     let mut words = Words::new(line);
-    let Some(name) = words.next() else {
-        return Verdict::Misshapen;
-    };
-    let Some(second) = words.next() else {
-        return if name.is(b"end") {
-            Verdict::End
-        } else {
-            Verdict::Misshapen
-        };
-    };
-    let Some(third) = words.next() else {
-        return if name.is(b"send") {
-            send(second)
-        } else {
-            Verdict::Misshapen
-        };
-    };
-    if words.next().is_some() {
-        return Verdict::Misshapen;
+    let name = words.next().ok_or(Mistake::Misshapen)?;
+    match (words.next(), words.next(), words.next()) {
+        (None, _, _) if name.is(b"end") => Ok(None),
+        (Some(seat), None, _) => judge_two(name, seat),
+        (Some(seat), Some(number), None) => judge_three(name, seat, number),
+        _ => Err(Mistake::Misshapen),
     }
-    judge_three(name, second, third)
 }
 
-// The game that the word names.
+// The game that the word names. No TryFrom: an error type would have nothing to say.
 fn game(name: Token) -> Option<GameName>
     ensures { result ≡ game_in (kept name.entry) }
 {
@@ -126,31 +106,8 @@ fn game(name: Token) -> Option<GameName>
     }
 }
 
-// What the last three words of the first line say.
-fn opening(name: Token, number: Token, seed: Token) -> Option<First>
-    ensures { result ≡ first_by (game_in (kept name.entry)) (short_in (kept number.entry)) (number_in most_32 (kept seed.entry)) }
-{
-    Some(First {
-        game: game(name)?,
-        match_number: number.short()?,
-        seed: seed.number()?,
-    })
-}
-
-// What five words say as the first line.
-fn five_words(mark: Token, version: Token, name: Token, number: Token, seed: Token) -> Option<First>
-    ensures { result ≡ first_of (kept mark.entry ∷ kept version.entry ∷ kept name.entry ∷ kept number.entry ∷ kept seed.entry ∷ []) }
-{
-    if mark.is(b"RBT") && version.is(b"1") {
-        opening(name, number, seed)
-    } else {
-        None
-    }
-}
-
 // What the first line says, or nothing where it is wrong.
 pub(crate) fn first_line(line: Part) -> Option<First>
-    requires { end_of line < 2 ^ 64 }
     ensures { result ≡ first_of (words (piece line.entry)) }
 {
     let mut words = Words::new(line);
@@ -159,8 +116,12 @@ pub(crate) fn first_line(line: Part) -> Option<First>
     let name = words.next()?;
     let number = words.next()?;
     let seed = words.next()?;
-    if words.next().is_some() {
+    if words.next().is_some() || !mark.is(b"RBT") || !version.is(b"1") {
         return None;
     }
-    five_words(mark, version, name, number, seed)
+    Some(First {
+        game: game(name)?,
+        match_number: number.short()?,
+        seed: seed.number()?,
+    })
 }

@@ -1,6 +1,6 @@
 // Numbers in decimal.
 ghost use Rattle.std.specs.Prelude.{◌≡◌};
-ghost use Rattle.trace.specs.Numbers.{most_32, no_leading_zero, number};
+ghost use Rattle.trace.specs.Numbers.{most_32, no_leading_zero, numeral, number};
 
 // Something stands there, and nothing follows a leading zero.
 fn no_leading_zero(word: &[u8]) -> bool
@@ -13,19 +13,19 @@ fn no_leading_zero(word: &[u8]) -> bool
     }
 }
 
+// Some digits, with no leading zero.
+fn is_numeral(word: &[u8]) -> bool
+    ensures { result ≡ numeral word.now }
+{
+    no_leading_zero(word) && word.iter().all(|b| b.is_ascii_digit())
+}
+
 // The number of at most 32 bits that the word is: digits alone, and no zero before others.
 pub(crate) fn decimal(word: &[u8]) -> Option<u32>
     ensures { result ≡ number most_32 word.now }
 {
-    if !no_leading_zero(word) {
+    if !is_numeral(word) {
         return None;
     }
-    let mut value = 0u32;
-    for b in word {
-        if !b.is_ascii_digit() {
-            return None;
-        }
-        value = value.checked_mul(10)?.checked_add(u32::from(*b - b'0'))?;
-    }
-    Some(value)
+    str::from_utf8(word).ok()?.parse().ok()
 }

@@ -1,7 +1,7 @@
 // A whole text read.
 ghost use Rattle.std.specs.Prelude.{◌≡◌, IfOk};
 ghost use Rattle.trace.specs.Reading.{read_text};
-ghost use Rattle.trace.specs.Ahead.{ahead, Sound};
+ghost use Rattle.trace.specs.Ahead.{ahead};
 ghost use Rattle.trace.specs.Laws.{Faithful};
 ghost use Rattle.trace.specs.Whole.{rest_of, reading_of};
 
@@ -10,26 +10,23 @@ use crate::reader::Reader;
 use std::alloc::{AllocError, Global};
 
 // The turns ahead of a reader, and the fault that ends them.
-fn read_turns(
-    mut reader: Reader,
-    heap: Global,
-) -> Result<(Vec<TraceTurn>, Option<Fault>), AllocError>
-    requires { Sound reader }
+fn read_turns(reader: Reader, heap: Global) -> Result<(Vec<TraceTurn>, Option<Fault>), AllocError>
     ensures { IfOk result (λ x. rest_of x ≡ ahead reader.entry) }
 {
     let mut turns = Vec::new(heap);
-    loop {
-        match reader.next() {
-            Ok(Some(turn)) => turns.push(turn)?,
-            Ok(None) => return Ok((turns, None)),
+    for turn in reader {
+        match turn {
+            Ok(turn) => turns.push(turn)?,
             Err(fault) => return Ok((turns, Some(fault))),
         }
     }
+    Ok((turns, None))
 }
 
-// The first line, the turns and the fault, without the laws that follow from what they are.
-fn read_lines(text: &[u8], heap: Global) -> Result<Trace, AllocError>
-    ensures { IfOk result (λ t. reading_of t ≡ read_text text.now) }
+// The first line of the text, its turns, and its fault if it has one.
+pub fn read(text: &[u8], heap: Global) -> Result<Trace, AllocError>
+    ensures reading { IfOk result (λ t. reading_of t ≡ read_text text.now) }
+    ensures laws { IfOk result (λ t. Faithful text.now (reading_of t)) }
 {
     match Reader::open(text) {
         Ok((first, reader)) => {
@@ -46,12 +43,4 @@ fn read_lines(text: &[u8], heap: Global) -> Result<Trace, AllocError>
             fault: Some(fault),
         }),
     }
-}
-
-// The first line of the text, its turns, and its fault if it has one.
-pub fn read(text: &[u8], heap: Global) -> Result<Trace, AllocError>
-    ensures reading { IfOk result (λ t. reading_of t ≡ read_text text.now) }
-    ensures laws { IfOk result (λ t. Faithful text.now (reading_of t)) }
-{
-    read_lines(text, heap)
 }

@@ -1,44 +1,43 @@
 // The lines of a text, one after another.
-ghost use Rattle.std.specs.Prelude.{◌≡◌, ◌^◌, ◌<◌};
+ghost use Rattle.std.specs.Prelude.{◌≡◌, ◌≤◌};
+ghost use Rattle.std.specs.Option.{ForSome};
 ghost use Rattle.trace.specs.Pieces.{line_feed};
 ghost use Rattle.trace.specs.Lines.{verdict};
 ghost use Rattle.trace.specs.Reading.{out_of_place, after_end, read_text};
-ghost use Rattle.trace.specs.Meanings.{piece, parted, end_of};
-ghost use Rattle.trace.specs.Ahead.{ahead, answer_of, left_of, unended, Sound, Opened};
+ghost use Rattle.trace.specs.Meanings.{piece, parted};
 
 use crate::forms::{Fault, First, TraceTurn};
-use crate::line::{Verdict, first_line, judge};
+use crate::line::{Mistake, first_line, judge};
 use crate::part::Part;
 use interface::answers::Refusal;
 
-// What is left of a text after its first line, and the number of the next line.
+// What is left of a text after its first line, and the number of the next line. Nothing is left after the line `end` or a fault.
 #[derive(Drop)]
 pub(crate) struct Reader<'a> {
-    rest: Part<'a>,
+    rest: Option<Part<'a>>,
     line: usize,
+    ghost lines: { ForSome rest (λ p. line ≤ p.at) },
 }
 
 // What is wrong with a line that lacks its line feed, or stands after `end`.
 fn out_of_place(line: Part) -> Refusal
-    requires { end_of line < 2 ^ 64 }
     ensures { result ≡ out_of_place (verdict (piece line.entry)) }
 {
     match judge(line) {
-        Verdict::Misshapen => Refusal::BadLine,
+        Err(Mistake::Misshapen) => Refusal::BadLine,
         _ => Refusal::BadEnding,
     }
 }
 
-// What the end of a text after `end` answers: nothing may follow.
-fn finish(rest: Part, line: usize) -> Result<Option<TraceTurn>, Fault>
-    requires { end_of rest < 2 ^ 64 }
-    ensures { result ≡ answer_of (after_end line (parted line_feed rest.entry)) }
+// What is wrong after the line `end`: nothing may follow.
+fn finish(rest: Part, line: usize) -> Option<Fault>
+    ensures { result ≡ (after_end line (parted line_feed rest.entry)).fault }
 {
     if rest.bytes.is_empty() {
-        return Ok(None);
+        return None;
     }
     let (part, _) = rest.split(b'\n');
-    Err(Fault {
+    Some(Fault {
         why: out_of_place(part),
         line,
         at: part.at,
@@ -46,6 +45,8 @@ fn finish(rest: Part, line: usize) -> Result<Option<TraceTurn>, Fault>
 }
 
 impl<'a> Reader<'a> {
+    ghost use Rattle.trace.specs.Ahead.{unended, Opened};
+
     // The first line, and a reader of those after it; or the fault of the first line.
     pub(crate) fn open(text: &'a [u8]) -> Result<(First, Reader<'a>), Fault>
         ensures { Opened result (read_text text.now) }
@@ -55,19 +56,21 @@ impl<'a> Reader<'a> {
             line: 1,
             at: 0,
         };
-        let (line, rest) = Part { bytes: text, at: 0 }.split(b'\n');
-        let Some(rest) = rest else {
+        let (line, Some(rest)) = Part { bytes: text, at: 0 }.split(b'\n') else {
             return Err(fault);
         };
-        match first_line(line) {
-            Some(first) => Ok((first, Reader { rest, line: 2 })),
-            None => Err(fault),
-        }
+        let first = first_line(line).ok_or(fault)?;
+        Ok((
+            first,
+            Reader {
+                rest: Some(rest),
+                line: 2,
+            },
+        ))
     }
 
     // The text after the last line feed: nothing, or a line without its line feed.
     fn cut_short(&self, part: Part) -> Fault
-        requires { end_of part < 2 ^ 64 }
         ensures { result ≡ unended self.now.line (piece part.entry) }
     {
         let why = if part.bytes.is_empty() {
@@ -81,35 +84,41 @@ impl<'a> Reader<'a> {
             at: part.at,
         }
     }
+}
 
-    // The next turn, nothing at the end, or the fault. At an end and at a fault the reader stays where it is.
-    pub(crate) fn next(&mut self) -> Result<Option<TraceTurn>, Fault>
-        requires { Sound self.old }
-        ensures answer { result ≡ answer_of (ahead self.old) }
-        ensures ahead { ahead self.new ≡ left_of (ahead self.old) }
-        ensures sound { Sound self.new }
-    {
-        let (part, rest) = self.rest.split(b'\n');
+impl<'a> Iterator for Reader<'a> {
+    ghost use Rattle.std.specs.Iterator.{YieldsFirst, item_count};
+    ghost use Rattle.trace.specs.Ahead.{items_ahead};
+
+    type Item = Result<TraceTurn, Fault>;
+
+    ghost next_gives = { YieldsFirst items_ahead };
+
+    ghost remaining = { item_count items_ahead };
+
+    fn next(&mut self) -> Option<Result<TraceTurn, Fault>> {
+        let (part, rest) = self.rest.take()?.split(b'\n');
         let Some(rest) = rest else {
-            return Err(self.cut_short(part));
+            return Some(Err(self.cut_short(part)));
         };
+        let line = self.line;
         match judge(part) {
-            Verdict::Turn(turn) => {
-                self.rest = rest;
+            Ok(Some(turn)) => {
+                self.rest = Some(rest);
                 self.line += 1;
-                Ok(Some(turn))
+                Some(Ok(turn))
             }
-            Verdict::End => finish(rest, self.line + 1),
-            Verdict::Misshapen => Err(Fault {
+            Ok(None) => Some(Err(finish(rest, line + 1)?)),
+            Err(Mistake::Misshapen) => Some(Err(Fault {
                 why: Refusal::BadLine,
-                line: self.line,
+                line,
                 at: part.at,
-            }),
-            Verdict::BadNumber(at) => Err(Fault {
+            })),
+            Err(Mistake::BadNumber(at)) => Some(Err(Fault {
                 why: Refusal::BadNumber,
-                line: self.line,
+                line,
                 at,
-            }),
+            })),
         }
     }
 }

@@ -1,5 +1,5 @@
 // The words of a line.
-ghost use Rattle.std.specs.Prelude.{◌≡◌, ◌≤◌, Bool};
+ghost use Rattle.std.specs.Prelude.{◌≡◌};
 ghost use Rattle.trace.specs.Tokens.{lexeme, spelling, place, says, number_in, seat_in, short_in};
 ghost use Rattle.trace.specs.Numbers.{most_32};
 ghost use Rattle.trace.specs.Meanings.{piece};
@@ -8,8 +8,9 @@ ghost use Rattle.trace.specs.Kept.{kept};
 use crate::number::decimal;
 use crate::part::Part;
 
-// A word of the trace, as the part of the text that it is, with its place; and its value where it is a number.
-#[derive(Clone, Copy)]
+// A word of the trace, as the part of the text that it is, with its place; and its value where it is a number. Two cases, and no Option of a
+// value: every line is judged by which words are numbers.
+#[derive(Clone, Copy, Debug)]
 pub(crate) enum Token<'a> {
     Word {
         text: &'a [u8],
@@ -22,24 +23,25 @@ pub(crate) enum Token<'a> {
     },
 }
 
-impl<'a> Token<'a> {
-    pub(crate) fn new(part: Part<'a>) -> Token<'a>
-        ensures { kept result ≡ lexeme (piece part.entry) }
-    {
+impl<'a> From<Part<'a>> for Token<'a> {
+    ghost from_gives = { λ part token. kept token ≡ lexeme (piece part) };
+
+    fn from(part: Part<'a>) -> Token<'a> {
         let Part { bytes: text, at } = part;
         match decimal(text) {
             Some(value) => Token::Number { text, at, value },
             None => Token::Word { text, at },
         }
     }
+}
 
+impl<'a> Token<'a> {
     // The word as it stands.
     fn text(self) -> &'a [u8]
         ensures { result.now ≡ spelling (kept self.entry) }
     {
         match self {
-            Token::Word { text, .. } => text,
-            Token::Number { text, .. } => text,
+            Token::Word { text, .. } | Token::Number { text, .. } => text,
         }
     }
 
@@ -55,8 +57,7 @@ impl<'a> Token<'a> {
         ensures { result ≡ place (kept self.entry) }
     {
         match self {
-            Token::Word { at, .. } => at,
-            Token::Number { at, .. } => at,
+            Token::Word { at, .. } | Token::Number { at, .. } => at,
         }
     }
 
@@ -74,29 +75,17 @@ impl<'a> Token<'a> {
     pub(crate) fn short(self) -> Option<u16>
         ensures { result ≡ short_in (kept self.entry) }
     {
-        match self {
-            Token::Number { value, .. } if value <= 65_535 => Some(value as u16),
-            _ => None,
-        }
-    }
-
-    // The number that the word is, if it is at most 1.
-    fn bit(self) -> Option<u32>
-        ensures { result ≡ number_in 1 (kept self.entry) }
-    {
-        match self {
-            Token::Number { value, .. } if value <= 1 => Some(value),
-            _ => None,
-        }
+        u16::try_from(self.number()?).ok()
     }
 
     // The seat that the word names: `true` for seat 1.
     pub(crate) fn seat(self) -> Option<bool>
         ensures { result ≡ seat_in (kept self.entry) }
     {
-        match self.bit() {
-            Some(n) => Some(n == 1),
-            None => None,
+        match self.number()? {
+            0 => Some(false),
+            1 => Some(true),
+            _ => None,
         }
     }
 }

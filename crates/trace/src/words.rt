@@ -1,10 +1,7 @@
 // The words of a line, one after another.
-ghost use Rattle.std.specs.Prelude.{◌≡◌, ◌^◌, ◌<◌};
-ghost use Rattle.std.specs.Option.{option_map};
+ghost use Rattle.std.specs.Prelude.{◌≡◌};
 ghost use Rattle.trace.specs.Tokens.{words};
-ghost use Rattle.trace.specs.Meanings.{piece, end_of};
-ghost use Rattle.trace.specs.Kept.{kept};
-ghost use Rattle.trace.specs.Left.{left, front, behind, Within};
+ghost use Rattle.trace.specs.Meanings.{piece};
 
 use crate::part::Part;
 use crate::token::Token;
@@ -16,25 +13,29 @@ pub(crate) struct Words<'a> {
 }
 
 impl<'a> Words<'a> {
+    ghost use Rattle.trace.specs.Left.{left};
+
     pub(crate) fn new(line: Part<'a>) -> Words<'a>
-        requires { end_of line < 2 ^ 64 }
-        ensures words { left result ≡ words (piece line.entry) }
-        ensures within { Within result }
+        ensures { left result ≡ words (piece line.entry) }
     {
         Words { rest: Some(line) }
     }
+}
 
-    pub(crate) fn next(&mut self) -> Option<Token<'a>>
-        requires { Within self.old }
-        ensures token { option_map kept result ≡ front (left self.old) }
-        ensures left { left self.new ≡ behind (left self.old) }
-        ensures within { Within self.new }
-    {
-        let Some(part) = self.rest else {
-            return None;
-        };
-        let (word, rest) = part.split(b' ');
+impl<'a> Iterator for Words<'a> {
+    ghost use Rattle.std.specs.Iterator.{YieldsFirstBy, item_count};
+    ghost use Rattle.trace.specs.Kept.{kept};
+    ghost use Rattle.trace.specs.Left.{left};
+
+    type Item = Token<'a>;
+
+    ghost next_gives = { YieldsFirstBy kept left };
+
+    ghost remaining = { item_count left };
+
+    fn next(&mut self) -> Option<Token<'a>> {
+        let (word, rest) = self.rest?.split(b' ');
         self.rest = rest;
-        Some(Token::new(word))
+        Some(Token::from(word))
     }
 }

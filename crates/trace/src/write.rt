@@ -1,18 +1,51 @@
 // A trace as text.
-ghost use Rattle.std.specs.Prelude.{◌≡◌, [], ◌∷◌, ◌++◌, IfOk, Some, string_bytes, codes, OnOk};
-ghost use Rattle.std.specs.List.{AllByRecursion};
+ghost use Rattle.std.specs.Prelude.{◌≡◌, [], ◌∷◌, ◌++◌, IfOk, Some, string_bytes, OnOk};
 ghost use Rattle.trace.specs.Pieces.{line_feed};
 ghost use Rattle.trace.specs.Reading.{read_text};
 ghost use Rattle.trace.specs.Laws.{TurnFits, FirstFits, says_all};
-ghost use Rattle.trace.specs.Writing.{seat_word, first_words, turn_words, line_of, text_of};
+ghost use Rattle.trace.specs.Writing.{game_word, first_words, turn_words, line_of, text_of};
 
 use crate::forms::{First, GameName, TraceCall, TraceTurn};
 use std::alloc::{AllocError, Global};
+use std::fmt;
 
-fn seat_word(seat: bool) -> &'static str
-    ensures { result.now ≡ seat_word seat }
-{
-    if seat { "1" } else { "0" }
+impl fmt::Display for GameName {
+    ghost output = { λ game. Some (game_word game) };
+
+    fn fmt<W: fmt::Write>(&self, f: &mut fmt::Formatter<W>) -> fmt::Result {
+        match self {
+            GameName::Duel => write!(f, "duel"),
+            GameName::Speed => write!(f, "speed"),
+        }
+    }
+}
+
+// The first line, without its line feed.
+impl fmt::Display for First {
+    ghost output = { λ first. Some (line_of (first_words first)) };
+
+    fn fmt<W: fmt::Write>(&self, f: &mut fmt::Formatter<W>) -> fmt::Result {
+        let First {
+            game,
+            match_number,
+            seed,
+        } = *self;
+        write!(f, "RBT 1 {game} {match_number} {seed}")
+    }
+}
+
+// The line of a turn, without its line feed.
+impl fmt::Display for TraceTurn {
+    ghost output = { λ turn. Some (line_of (turn_words turn)) };
+
+    fn fmt<W: fmt::Write>(&self, f: &mut fmt::Formatter<W>) -> fmt::Result {
+        let seat = u8::from(self.seat);
+        match self.call {
+            TraceCall::Press(code) => write!(f, "press {seat} {code}"),
+            TraceCall::Send => write!(f, "send {seat}"),
+            TraceCall::Take(datagram) => write!(f, "take {seat} {datagram}"),
+        }
+    }
 }
 
 // The first line, with its line feed.
@@ -20,39 +53,15 @@ pub fn first_text(first: First, heap: Global) -> Result<String, AllocError>
     ensures line { IfOk result (λ s. string_bytes s ≡ line_of (first_words first) ++ line_feed ∷ []) }
     ensures fits { FirstFits first }
 {
-    let number = first.match_number;
-    let seed = first.seed;
-    match first.game {
-        GameName::Duel => format!(in heap; "RBT 1 duel {number} {seed}\n"),
-        GameName::Speed => format!(in heap; "RBT 1 speed {number} {seed}\n"),
-    }
+    format!(in heap; "{first}\n")
 }
 
-// The line of a turn, with its line feed.
-fn turn_text(turn: TraceTurn, heap: Global) -> Result<String, AllocError>
-    ensures line { IfOk result (λ s. string_bytes s ≡ line_of (turn_words turn) ++ line_feed ∷ []) }
+// Puts the line of a turn, with its line feed, behind the text.
+fn push_line(text: &mut String, turn: TraceTurn) -> Result<(), AllocError>
+    ensures line { OnOk result (string_bytes text.new ≡ string_bytes text.old ++ (line_of (turn_words turn) ++ line_feed ∷ [])) }
     ensures fits { TurnFits turn }
 {
-    let seat = seat_word(turn.seat);
-    match turn.call {
-        TraceCall::Press(code) => format!(in heap; "press {seat} {code}\n"),
-        TraceCall::Send => format!(in heap; "send {seat}\n"),
-        TraceCall::Take(datagram) => format!(in heap; "take {seat} {datagram}\n"),
-    }
-}
-
-// The lines one after another.
-fn write_lines(first: First, turns: &[TraceTurn], heap: Global) -> Result<Vec<u8>, AllocError>
-    ensures text { IfOk result (λ v. v.items ≡ text_of first turns.now) }
-    ensures fits { OnOk result (FirstFits first × AllByRecursion TurnFits turns.now) }
-{
-    let mut text = first_text(first, heap)?;
-    for turn in turns {
-        let line = turn_text(*turn, heap)?;
-        text.push_str(&line)?;
-    }
-    text.push_str("end\n")?;
-    Ok(text.into_bytes())
+    writeln!(text, "{turn}")
 }
 
 // The text of a trace with this first line and these turns. It reads back to them.
@@ -60,5 +69,10 @@ pub fn write(first: First, turns: &[TraceTurn], heap: Global) -> Result<Vec<u8>,
     ensures text { IfOk result (λ v. v.items ≡ text_of first turns.now) }
     ensures reads { IfOk result (λ v. read_text v.items ≡ says_all (Some first) turns.now) }
 {
-    write_lines(first, turns, heap)
+    let mut text = first_text(first, heap)?;
+    for turn in turns {
+        push_line(&mut text, *turn)?;
+    }
+    text.push_str("end\n")?;
+    Ok(text.into_bytes())
 }

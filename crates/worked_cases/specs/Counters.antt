@@ -1,5 +1,5 @@
 -- A small game for tests: a running total, and a dial of ten places.
-use Rattle.std.specs.Prelude.{ℕ, ◌+◌, ◌*◌, ◌%◌, ◌^◌, Bool, true, false, cond, List, [], ◌∷◌, Some, None, Option, ◌==◌, nat_lt, slice_index}
+use Rattle.std.specs.Prelude.{ℕ, ◌+◌, ◌*◌, ◌%◌, ◌^◌, Bool, false, cond, List, [], ◌∷◌, Some, None, Option, ◌==◌, nat_lt, slice_index}
 use Rattle.interface.specs.Games.{State, if_lawful}
 use Rattle.worked_cases.specs.declared.counter_game.Press.{Press}
 use Rattle.worked_cases.specs.declared.counter_game.Press.TheVariants.{Rest, Tap, Push}

@@ -10,9 +10,9 @@ use interface::input::InputKind;
 
 #[derive(Clone, Copy, Debug)]
 pub enum Press {
-    Rest,
-    Tap,
-    Push,
+    Rest = 0,
+    Tap = 1,
+    Push = 2,
 }
 
 impl InputKind for Press {
@@ -40,11 +40,7 @@ impl InputKind for Press {
     }
 
     fn code(self) -> u16 {
-        match self {
-            Press::Rest => 0,
-            Press::Tap => 1,
-            Press::Push => 2,
-        }
+        self as u16
     }
 
     fn idle() -> Self {
@@ -64,7 +60,7 @@ impl Game for Counter {
 
     const W: u32 = 2;
 
-    ghost width = { 2 };
+    ghost W = { 2 };
 
     ghost words = { λ g. g.total ∷ (g.dial ∷ []) };
 
@@ -83,10 +79,6 @@ impl Game for Counter {
     ghost always_wide = { first_of (Prim.search rules, Prim.grind (arith, Self.row.coded.inj)) };
 
     ghost always_lawful = { first_of (Prim.search rules, Prim.grind (arith, Self.row.coded.inj)) };
-
-    fn width() -> u32 {
-        Self::W
-    }
 
     fn open(seed: u32) -> Self {
         Counter {

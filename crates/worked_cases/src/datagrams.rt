@@ -10,6 +10,7 @@ pub fn worked_datagram()
 mod tests {
     use datagram::forms::{Codes, Datagram};
     use datagram::read::read;
+    use interface::answers::Refusal;
     use std::test::*;
 
     const WORKED: [u8; 25] = [
@@ -18,10 +19,7 @@ mod tests {
 
     // The number that reading answers.
     fn answer(bytes: &[u8]) -> u32 {
-        match read(bytes) {
-            Ok(_) => 0,
-            Err(refusal) => refusal.number(),
-        }
+        read(bytes).map_or_else(Refusal::number, |_| 0)
     }
 
     // The first `count` codes of codes whose two bytes differ.
@@ -33,16 +31,15 @@ mod tests {
         codes
     }
 
-    // Whether what is read says what was written.
+    // Whether what is read says what was written; the two are of different types, so `==` does not compare them.
     fn same(wrote: &Datagram<Codes>, got: &Datagram<&[u8]>) -> bool {
         let codes = wrote.codes.as_slice();
-        for (k, code) in codes.iter().enumerate() {
-            match got.code(k) {
-                Some(found) if found == *code => {}
-                _ => return false,
-            }
-        }
-        got.count() == codes.len()
+        codes
+            .iter()
+            .enumerate()
+            .all(|(k, code)| got.code(k) == Some(*code))
+            && got.codes().eq(codes.iter().copied())
+            && got.count() == codes.len()
             && got.sender == wrote.sender
             && got.match_number == wrote.match_number
             && got.start == wrote.start
@@ -61,17 +58,14 @@ mod tests {
         if length != 21 + 2 * wrote.codes.as_slice().len() || length >= 90 {
             return false;
         }
-        match read(&buffer[0..length]) {
-            Ok(got) => same(wrote, &got) && buffer[length] == 9,
-            Err(_) => false,
-        }
+        read(&buffer[..length]).is_ok_and(|got| same(wrote, &got)) && buffer[length] == 9
     }
 
     #[test]
     fn worked_bytes(rt: HostRuntime) -> Result<(), Fail> {
         let mut codes = Codes::new();
-        assert!(rt; codes.push(2));
-        assert!(rt; codes.push(10));
+        assert!(rt; codes.push(2).is_ok());
+        assert!(rt; codes.push(10).is_ok());
         let wrote = Datagram {
             sender: 0,
             match_number: 7,
@@ -82,16 +76,10 @@ mod tests {
             digest: 202,
         };
         let mut buffer = [0u8; 25];
-        match wrote.write(&mut buffer) {
-            Ok(length) => assert_eq!(rt; length, 25),
-            Err(refusal) => assert_eq!(rt; refusal.number(), 0),
-        }
+        assert_eq!(rt; wrote.write(&mut buffer).map_err(Refusal::number), Ok(25));
         assert_eq!(rt; buffer, WORKED);
         let mut short = [9u8; 24];
-        match wrote.write(&mut short) {
-            Ok(_) => assert!(rt; false),
-            Err(refusal) => assert_eq!(rt; refusal.number(), 14),
-        }
+        assert_eq!(rt; wrote.write(&mut short).map_err(Refusal::number), Err(14));
         assert_eq!(rt; short, [9u8; 24]);
         Ok(())
     }

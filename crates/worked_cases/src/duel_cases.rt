@@ -10,6 +10,7 @@ pub fn duel_worked()
 mod tests {
     use duel::input::DuelInput;
     use duel::state::Duel;
+    use interface::answers::Refusal;
     use interface::digest::digest;
     use interface::game::Game;
     use interface::input::InputKind;
@@ -17,11 +18,8 @@ mod tests {
     use std::test::*;
 
     // The number of a refusal, or 0.
-    fn answer(r: Result<(), interface::answers::Refusal>) -> u32 {
-        match r {
-            Ok(()) => 0,
-            Err(why) => why.number(),
-        }
+    fn answer(r: Result<(), Refusal>) -> u32 {
+        r.map_or_else(Refusal::number, |()| 0)
     }
 
     fn coded(code: u16) -> DuelInput {
@@ -30,8 +28,8 @@ mod tests {
 
     // The words of a state, in a case that the note names.
     fn sums(rt: &impl Abort, duel: &Duel, words: [u32; 10], note: &str) {
-        for k in 0..10u32 {
-            assert_eq!(rt; duel.word(k), Some(words[k as usize]), "{note}");
+        for (k, word) in (0..10).zip(words) {
+            assert_eq!(rt; duel.word(k), Some(word), "{note}");
         }
         assert_eq!(rt; duel.word(10), None, "{note}");
         assert_eq!(rt; duel.word(u32::MAX), None, "{note}");
@@ -42,7 +40,7 @@ mod tests {
         let mut duel = Duel::open(0);
         sums(&rt, &duel, [0, 0, 2, 0, 7, 7, 4, 0, 0, 0], "the opening");
         assert_eq!(rt; digest(&duel), 202);
-        assert_eq!(rt; Duel::W, Duel::width());
+        assert_eq!(rt; Duel::W, 10);
         let trail = duel.step(coded(2), coded(1));
         sums(
             &rt,
@@ -79,17 +77,15 @@ mod tests {
                 None => assert!(rt; code % 8 > 4 || code > 15),
             }
         }
-        assert!(rt; DuelInput::read(u16::MAX).is_none());
-        assert!(rt; DuelInput::read(256).is_none());
+        assert_eq!(rt; DuelInput::read(u16::MAX), None);
+        assert_eq!(rt; DuelInput::read(256), None);
         Ok(())
     }
 
     // What restoring ten words answers, and the words then: those, or the old ones.
     fn restores(rt: &impl Abort, words: [u32; 10], expected: u32, note: &str) {
         let mut from = [7u32; 72];
-        for k in 0..10 {
-            from[k] = words[k];
-        }
+        from[..10].copy_from_slice(&words);
         let mut duel = Duel::open(0);
         assert_eq!(rt; answer(duel.restore(&from)), expected, "{note}");
         sums(
@@ -197,11 +193,9 @@ mod tests {
         expected: [u32; 10],
         note: &str,
     ) -> Result<(), Fail> {
-        let Some(mut duel) = Duel::from_words(&from) else {
-            return Err(Fail::new("unlawful"));
-        };
-        for (first, second) in codes {
-            let _ = duel.step(coded(*first), coded(*second));
+        let mut duel = Duel::from_words(&from).ok_or_else(|| Fail::new("unlawful"))?;
+        for &(first, second) in codes {
+            let _ = duel.step(coded(first), coded(second));
         }
         sums(rt, &duel, expected, note);
         Ok(())

@@ -56,6 +56,7 @@ fn going_back_past_the_list(rt: HostRuntime) -> Result<(), Fail> {
 }
 
 // Whether both keepers agree on a script of a game, with three of its inputs: frames ahead, and going back 1, 3, 8 and 9.
+// A macro, since of an array of a type parameter's inputs it is not proved that it fits the memory.
 macro_rules! keepers_agree {
     ($game:ty, $one:expr, $two:expr, $three:expr) => {{
         let ahead = Move::Ahead($one, $two);

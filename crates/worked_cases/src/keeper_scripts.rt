@@ -17,8 +17,8 @@ pub enum Move<I> {
 
 // Makes a move, and gives the digest of the state that it stepped or went back to.
 pub fn follow<G: Game, K: Keeper<G>>(keeper: &mut K, step: Move<G::Input>) -> Option<u32>
-    ensures seen { result ≡ seen G.Game.next step (K.Keeper.kept keeper.old).states }
-    ensures states { (K.Keeper.kept keeper.new).states ≡ moved G.Game.next step (K.Keeper.kept keeper.old).states }
+    ensures seen { result ≡ seen G.next step (K.kept keeper.old).states }
+    ensures states { (K.kept keeper.new).states ≡ moved G.next step (K.kept keeper.old).states }
 {
     match step {
         Move::Ahead(first, second) => {
@@ -26,9 +26,7 @@ pub fn follow<G: Game, K: Keeper<G>>(keeper: &mut K, step: Move<G::Input>) -> Op
             Some(keeper.digest())
         }
         Move::Again(frames, first, second) => {
-            let Ok(debt) = keeper.go_back(frames) else {
-                return None;
-            };
+            let debt = keeper.go_back(frames).ok()?;
             let digest = keeper.digest();
             pay_off(keeper, debt, first, second);
             Some(digest)
@@ -38,7 +36,7 @@ pub fn follow<G: Game, K: Keeper<G>>(keeper: &mut K, step: Move<G::Input>) -> Op
 
 // A keeper after a script. The states that it lists follow from the game and the script alone, so any two keepers list the same.
 pub fn play_script<G: Game, K: Keeper<G>>(seed: u32, script: &[Move<G::Input>]) -> K
-    ensures { (K.Keeper.kept result).states ≡ scripted G.Game.next (G.Game.opening seed ∷ []) script.now }
+    ensures { (K.kept result).states ≡ scripted G.next (G.opening seed ∷ []) script.now }
 {
     let mut keeper = K::open(seed);
     for step in script {
@@ -49,15 +47,10 @@ pub fn play_script<G: Game, K: Keeper<G>>(seed: u32, script: &[Move<G::Input>]) 
 
 // Whether the newest states of two keepers have the same words.
 pub fn same_words<G: Game, A: Keeper<G>, B: Keeper<G>>(left: &A, right: &B) -> bool
-    ensures told { result ≡ true → SameFront G.Game.width (newest (A.Keeper.kept left.now).states) (newest (B.Keeper.kept right.now).states) }
-    ensures found { (A.Keeper.kept left.now).states ≡ (B.Keeper.kept right.now).states → result ≡ true }
+    ensures told { result ≡ true → SameFront G.W (newest (A.kept left.now).states) (newest (B.kept right.now).states) }
+    ensures found { (A.kept left.now).states ≡ (B.kept right.now).states → result ≡ true }
 {
-    for k in 0..G::width() {
-        if left.word(k) != right.word(k) {
-            return false;
-        }
-    }
-    true
+    (0..G::W).all(|k| left.word(k) == right.word(k))
 }
 
 // Whether two keepers show the same at each move of a script and after it: they always do.

@@ -15,4 +15,6 @@ mod queue_cases;
 mod seat_cases;
 #[cfg(test)]
 mod seat_scripts;
+#[cfg(test)]
+mod seat_tests;
 pub mod speed_cases;

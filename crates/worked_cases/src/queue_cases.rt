@@ -3,19 +3,12 @@ use duel::input::{Direction, DuelInput};
 use frames::queue::FrameQueue;
 use interface::input::InputKind;
 use std::process::Abort;
-use std::test::*;
 
 // Puts each frame's own number, from frame 0 on.
-fn fill(
-    rt: &impl Abort,
-    queue: &mut FrameQueue,
-    slots: &mut [u32],
-    frames: u32,
-) -> Result<(), Fail> {
+fn fill(rt: &impl Abort, queue: &mut FrameQueue, slots: &mut [u32], frames: u32) {
     for frame in 0..frames {
         assert!(rt; queue.put(slots, frame, frame).is_ok());
     }
-    Ok(())
 }
 
 // Puts each frame of a table, which says where that is accepted.
@@ -24,33 +17,25 @@ fn puts<T: Copy>(
     queue: &mut FrameQueue,
     slots: &mut [T],
     cases: &[(u32, T, bool)],
-) -> Result<(), Fail> {
-    for case in cases {
-        let (frame, value, accepted) = *case;
-        assert_eq!(rt; queue.put(slots, frame, value).is_ok(), accepted);
+) {
+    for (frame, value, accepted) in cases {
+        assert_eq!(rt; queue.put(slots, *frame, *value).is_ok(), *accepted);
     }
-    Ok(())
 }
 
 // Reads each frame of a table.
-fn gets(
-    rt: &impl Abort,
-    queue: &FrameQueue,
-    slots: &[u32],
-    cases: &[(u32, Option<u32>)],
-) -> Result<(), Fail> {
+fn gets(rt: &impl Abort, queue: &FrameQueue, slots: &[u32], cases: &[(u32, Option<u32>)]) {
     for (frame, value) in cases {
         assert_eq!(rt; queue.get(slots, *frame), *value);
     }
-    Ok(())
 }
 
 #[test]
-fn digests_in_a_queue(rt: HostRuntime) -> Result<(), Fail> {
+fn digests_in_a_queue(rt: HostRuntime) {
     let mut slots = [0u32; 32];
     let mut queue = FrameQueue::new();
-    puts(&rt, &mut queue, &mut slots, &[(1, 1, false)])?;
-    fill(&rt, &mut queue, &mut slots, 40)?;
+    puts(&rt, &mut queue, &mut slots, &[(1, 1, false)]);
+    fill(&rt, &mut queue, &mut slots, 40);
     gets(
         &rt,
         &queue,
@@ -63,7 +48,7 @@ fn digests_in_a_queue(rt: HostRuntime) -> Result<(), Fail> {
             (40, None),
             (4_294_967_295, None),
         ],
-    )?;
+    );
     puts(
         &rt,
         &mut queue,
@@ -75,56 +60,51 @@ fn digests_in_a_queue(rt: HostRuntime) -> Result<(), Fail> {
             (40, 1, true),
             (8, 1, false),
         ],
-    )?;
+    );
     gets(
         &rt,
         &queue,
         &slots,
         &[(8, None), (9, Some(9)), (40, Some(1))],
-    )?;
+    );
     assert_eq!(rt; queue.next(), 41);
-    Ok(())
 }
 
 #[test]
-fn slots_of_a_wrong_number(rt: HostRuntime) -> Result<(), Fail> {
+fn slots_of_a_wrong_number(rt: HostRuntime) {
     let mut few = [5u32; 31];
     let mut queue = FrameQueue::new();
-    puts(&rt, &mut queue, &mut few, &[(0, 1, false)])?;
-    gets(&rt, &queue, &few, &[(0, None)])?;
+    puts(&rt, &mut queue, &mut few, &[(0, 1, false)]);
+    gets(&rt, &queue, &few, &[(0, None)]);
     assert_eq!(rt; queue.next(), 0);
-    Ok(())
 }
 
 #[test]
-fn the_last_frame_of_a_queue(rt: HostRuntime) -> Result<(), Fail> {
+fn the_last_frame_of_a_queue(rt: HostRuntime) {
     let mut slots = [0u32; 32];
     let mut queue = FrameQueue::new();
-    fill(&rt, &mut queue, &mut slots, 65_536)?;
+    fill(&rt, &mut queue, &mut slots, 65_536);
     puts(
         &rt,
         &mut queue,
         &mut slots,
         &[(65_536, 1, false), (65_504, 1, true), (65_503, 1, false)],
-    )?;
+    );
     gets(
         &rt,
         &queue,
         &slots,
         &[(65_535, Some(65_535)), (65_504, Some(1))],
-    )
+    );
 }
 
-// The code of a frame's input, or 99 where it is not held.
-fn code_at(queue: &FrameQueue, slots: &[DuelInput], frame: u32) -> u16 {
-    match queue.get(slots, frame) {
-        Some(input) => input.code(),
-        None => 99,
-    }
+// The code of a frame's input, if it is held.
+fn code_at(queue: &FrameQueue, slots: &[DuelInput], frame: u32) -> Option<u16> {
+    queue.get(slots, frame).map(|input| input.code())
 }
 
 #[test]
-fn inputs_in_a_queue(rt: HostRuntime) -> Result<(), Fail> {
+fn inputs_in_a_queue(rt: HostRuntime) {
     let fire = DuelInput {
         steer: None,
         fire: true,
@@ -148,9 +128,8 @@ fn inputs_in_a_queue(rt: HostRuntime) -> Result<(), Fail> {
             (0, left, true),
             (3, fire, false),
         ],
-    )?;
-    assert_eq!(rt; code_at(&queue, &slots, 0), 4);
-    assert_eq!(rt; code_at(&queue, &slots, 1), 4);
-    assert_eq!(rt; code_at(&queue, &slots, 2), 99);
-    Ok(())
+    );
+    assert_eq!(rt; code_at(&queue, &slots, 0), Some(4));
+    assert_eq!(rt; code_at(&queue, &slots, 1), Some(4));
+    assert_eq!(rt; code_at(&queue, &slots, 2), None);
 }

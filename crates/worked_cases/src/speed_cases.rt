@@ -8,11 +8,13 @@ pub fn cards_that_fit()
 
 #[cfg(test)]
 mod tests {
+    use interface::answers::Refusal;
     use interface::digest::digest;
     use interface::game::Game;
     use interface::input::InputKind;
     use speed::cards_fit;
     use speed::game::Speed;
+    use speed::moves::Move;
     use std::process::Abort;
     use std::test::*;
 
@@ -221,20 +223,19 @@ mod tests {
 
     fn changed(words: &[u32; 72], changes: &[(usize, u32)]) -> [u32; 72] {
         let mut result = *words;
-        for (place, value) in changes {
-            if *place < 72 {
-                result[*place] = *value;
+        for &(place, value) in changes {
+            if place < 72 {
+                result[place] = value;
             }
         }
         result
     }
 
     fn restored(words: &[u32; 72]) -> Result<Speed, Fail> {
-        let mut game = <Speed as Game>::open(0);
-        match game.restore(words) {
-            Ok(()) => Ok(game),
-            Err(_) => Err(Fail::new("restore refused")),
-        }
+        let mut game = Speed::open(0);
+        game.restore(words)
+            .map_err(|_| Fail::new("restore refused"))?;
+        Ok(game)
     }
 
     fn next_number(z: u32) -> u32 {
@@ -243,8 +244,8 @@ mod tests {
 
     // The words of a state, in a case that the note names.
     fn check_words(rt: &impl Abort, game: &Speed, words: &[u32; 72], note: &str) {
-        for k in 0..68 {
-            assert_eq!(rt; game.word(k), Some(words[k as usize]), "{note}");
+        for (k, word) in words[..68].iter().enumerate() {
+            assert_eq!(rt; game.word(k as u32), Some(*word), "{note}");
         }
         assert_eq!(rt; game.word(68), None, "{note}");
     }
@@ -261,8 +262,8 @@ mod tests {
         for case in &CASES {
             let before = changed(&IN_ORDER, case.before);
             let mut game = restored(&before)?;
-            let first = <speed::moves::Move as InputKind>::read(case.codes.0).ok_or("code")?;
-            let second = <speed::moves::Move as InputKind>::read(case.codes.1).ok_or("code")?;
+            let first = Move::read(case.codes.0).ok_or("code")?;
+            let second = Move::read(case.codes.1).ok_or("code")?;
             let trail = game.step(first, second);
             check_words(&rt, &game, &changed(&before, case.after), case.name);
             assert!(rt; game.undo(&trail).is_ok(), "{}", case.name);
@@ -274,7 +275,7 @@ mod tests {
     #[test]
     fn codes_that_read(rt: HostRuntime) -> Result<(), Fail> {
         for code in 0..=300u16 {
-            match <speed::moves::Move as InputKind>::read(code) {
+            match Move::read(code) {
                 Some(play) => {
                     assert!(rt; code < 12);
                     assert_eq!(rt; play.code(), code);
@@ -282,7 +283,7 @@ mod tests {
                 None => assert!(rt; code > 11),
             }
         }
-        assert!(rt; <speed::moves::Move as InputKind>::read(u16::MAX).is_none());
+        assert!(rt; Move::read(u16::MAX).is_none());
         Ok(())
     }
 
@@ -290,10 +291,8 @@ mod tests {
     fn refused_restores(rt: HostRuntime) -> Result<(), Fail> {
         for (name, changes) in &REFUSED {
             let mut game = restored(&IN_ORDER)?;
-            match game.restore(&changed(&IN_ORDER, changes)) {
-                Ok(()) => return Err(Fail::new(*name)),
-                Err(refusal) => assert_eq!(rt; refusal.number(), 16, "{}", *name),
-            }
+            let answer = game.restore(&changed(&IN_ORDER, changes));
+            assert_eq!(rt; answer.map_err(Refusal::number), Err(16), "{}", *name);
             check_words(&rt, &game, &IN_ORDER, name);
         }
         Ok(())
@@ -302,10 +301,7 @@ mod tests {
     #[test]
     fn other_trails(rt: HostRuntime) -> Result<(), Fail> {
         let mut game = restored(&IN_ORDER)?;
-        let [first, second, _, _] = game.step(
-            <speed::moves::Move as InputKind>::idle(),
-            <speed::moves::Move as InputKind>::idle(),
-        );
+        let [first, second, _, _] = game.step(Move::idle(), Move::idle());
         let now = changed(&IN_ORDER, &[(67, 1)]);
         for trail in [
             [0, 0, 0, 0],
@@ -313,10 +309,7 @@ mod tests {
             [first, second, 6, 0],
             [first, second, 5, 2],
         ] {
-            match game.undo(&trail) {
-                Ok(()) => return Err(Fail::new("another trail")),
-                Err(refusal) => assert_eq!(rt; refusal.number(), 16),
-            }
+            assert_eq!(rt; game.undo(&trail).map_err(Refusal::number), Err(16));
             check_words(&rt, &game, &now, "another trail");
         }
         assert!(rt; game.undo(&[first, second, 3, 1]).is_ok());
@@ -328,21 +321,17 @@ mod tests {
     // Undoing all frames leads back to the opening.
     #[test]
     fn whole_game(rt: HostRuntime) -> Result<(), Fail> {
-        assert_eq!(rt; Speed::W, Speed::width());
-        let mut game = <Speed as Game>::open(7);
+        assert_eq!(rt; Speed::W, 68);
+        let mut game = Speed::open(7);
         let opening = digest(&game);
         let mut trails = [[0; 4]; 300];
         let mut z = 7;
-        for n in 0..300 {
+        for (n, trail) in trails.iter_mut().enumerate() {
             let y = next_number(z);
             z = next_number(y);
-            let first = <speed::moves::Move as InputKind>::read((y / 65_536 % 12) as u16).ok_or(
-                "code",
-            )?;
-            let second = <speed::moves::Move as InputKind>::read((z / 65_536 % 12) as u16).ok_or(
-                "code",
-            )?;
-            trails[n] = game.step(first, second);
+            let first = Move::read((y / 65_536 % 12) as u16).ok_or("code")?;
+            let second = Move::read((z / 65_536 % 12) as u16).ok_or("code")?;
+            *trail = game.step(first, second);
             match n {
                 99 => assert_eq!(rt; digest(&game), 111_614),
                 199 => assert_eq!(rt; digest(&game), 124_314),
@@ -350,8 +339,8 @@ mod tests {
                 _ => {}
             }
         }
-        for n in (0..300).rev() {
-            assert!(rt; game.undo(&trails[n]).is_ok());
+        for trail in trails.iter().rev() {
+            assert!(rt; game.undo(trail).is_ok());
         }
         assert_eq!(rt; digest(&game), opening);
         Ok(())
@@ -360,9 +349,9 @@ mod tests {
     #[test]
     fn openings(rt: HostRuntime) -> Result<(), Fail> {
         for (seed, words) in &OPENINGS {
-            let game = <Speed as Game>::open(*seed);
-            for k in 0..68 {
-                assert_eq!(rt; game.word(k), Some(words[k as usize]));
+            let game = Speed::open(*seed);
+            for (k, word) in words.iter().enumerate() {
+                assert_eq!(rt; game.word(k as u32), Some(*word));
             }
         }
         Ok(())

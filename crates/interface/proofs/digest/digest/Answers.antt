@@ -1,19 +1,15 @@
-use Rattle.std.proofs.Common.{sym, arith}
-use Rattle.interface.proofs.Places.{nth_inside}
-use Rattle.interface.proofs.Sums.{digest_more, digest_all}
+use Rattle.std.proofs.Common.{◌≡◌, ◌+◌, ◌*◌, drop, Some, ap, arith}
+use Rattle.std.specs.List.{slice_get}
+use Rattle.interface.specs.Digest.{weighted}
+use Rattle.interface.proofs.Places.{drop_from_slice_get}
 use Rattle.interface.proofs.digest.digest.Goals as goal
 
-pub loop-word-smaller : goal.loop-word-smaller
-loop-word-smaller g c =
-    let inside = nth_inside (g.G.Game.words c.args.game.now) c.loop-word.k c.in-Some.word (sym c.in-Some.ensures) in
-    omega arith
-
-pub loop-word-preserved : goal.loop-word-preserved
-loop-word-preserved g c =
+-- one word more
+pub loop-k-preserved : goal.loop-k-preserved
+loop-k-preserved g c =
     let ws = g.G.Game.words c.args.game.now in
-    let read = sym c.in-Some.ensures in
-    let inside = nth_inside ws c.loop-word.k c.in-Some.word read in
-    (omega arith, omega arith, digest_more ws _ _ _ _ read c.loop-word.invariant.2)
-
-pub returns : goal.returns
-returns g c = digest_all (g.G.Game.words c.args.game.now) _ _ c.loop-word.invariant.1 (sym c.in_default.ensures) c.loop-word.invariant.2
+    let k = c.loop-k.k in
+    let w = c.unwrap-word.result in
+    let there : slice_get ws k ≡ Some w = cc in
+    let split : weighted k (drop k ws) ≡ (2 * k + 1) * w + weighted (k + 1) (drop (k + 1) ws) = ap (weighted k) (drop_from_slice_get ws k w there) in
+    omega arith

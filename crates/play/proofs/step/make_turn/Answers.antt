@@ -7,6 +7,6 @@ use Rattle.play.proofs.step.make_turn.Goals as goal
 pub returns : goal.returns
 returns g c =
     record {
-      leaves = λ opening rest. lent_leaves g.K0.Keeper.kept g.K1.Keeper.kept (setup opening g.G.Game.next g.G.Input.InputKind.idle g.G.Input.InputKind.reads g.G.Input.InputKind.code g.H0.GuessRule.guessed g.H1.GuessRule.guessed) c.args.game.now c.make_call-answer.new.game (step_of c.args.turn) (slot_lists c.args.own.now c.args.other.now c.args.digests.now) (slot_lists c.make_call-answer.new.own c.make_call-answer.new.other c.make_call-answer.new.digests) rest c.args.log.now c.make_call-answer.new.log c.make_call-answer.result.0 c.make_call-answer.result.1 c.front-own_slots.result c.front-other_slots.result c.front-digest_slots.result c.front-records.result c.front-own_slots.ensures c.front-other_slots.ensures c.front-digest_slots.ensures c.front-records.ensures (c.make_call-answer.ensures opening (fronts own_lent rest)).leaves;
-      answers = λ opening rest. lent_answers g.K0.Keeper.kept g.K1.Keeper.kept (setup opening g.G.Game.next g.G.Input.InputKind.idle g.G.Input.InputKind.reads g.G.Input.InputKind.code g.H0.GuessRule.guessed g.H1.GuessRule.guessed) c.args.game.now c.make_call-answer.new.game (step_of c.args.turn) (slot_lists c.args.own.now c.args.other.now c.args.digests.now) (slot_lists c.make_call-answer.new.own c.make_call-answer.new.other c.make_call-answer.new.digests) rest c.args.log.now c.make_call-answer.new.log c.make_call-answer.result.0 c.make_call-answer.result.1 c.front-own_slots.result c.front-other_slots.result c.front-digest_slots.result c.front-records.result c.front-own_slots.ensures c.front-other_slots.ensures c.front-digest_slots.ensures c.front-records.ensures (c.make_call-answer.ensures opening (fronts own_lent rest)).leaves;
+      leaves = λ opening rest. lent_leaves g.K0.Keeper.kept g.K1.Keeper.kept (setup opening g.G.Game.next g.G.Input.InputKind.idle g.G.Input.InputKind.reads g.G.Input.InputKind.code g.H0.GuessRule.guessed g.H1.GuessRule.guessed) c.args.game.now c.make_call.new.game (step_of c.args.turn) (slot_lists c.args.own.now c.args.other.now c.args.digests.now) (slot_lists c.make_call.new.own c.make_call.new.other c.make_call.new.digests) rest c.args.log.now c.make_call.new.log c.make_call.result.0 c.make_call.result.1 c.min-own_slots.result c.min-other_slots.result c.min-digest_slots.result c.min-records.result c.min-own_slots.ensures c.min-other_slots.ensures c.min-digest_slots.ensures c.min-records.ensures (c.make_call.ensures opening (fronts own_lent rest)).leaves;
+      answers = λ opening rest. lent_answers g.K0.Keeper.kept g.K1.Keeper.kept (setup opening g.G.Game.next g.G.Input.InputKind.idle g.G.Input.InputKind.reads g.G.Input.InputKind.code g.H0.GuessRule.guessed g.H1.GuessRule.guessed) c.args.game.now c.make_call.new.game (step_of c.args.turn) (slot_lists c.args.own.now c.args.other.now c.args.digests.now) (slot_lists c.make_call.new.own c.make_call.new.other c.make_call.new.digests) rest c.args.log.now c.make_call.new.log c.make_call.result.0 c.make_call.result.1 c.min-own_slots.result c.min-other_slots.result c.min-digest_slots.result c.min-records.result c.min-own_slots.ensures c.min-other_slots.ensures c.min-digest_slots.ensures c.min-records.ensures (c.make_call.ensures opening (fronts own_lent rest)).leaves;
     }

@@ -1,4 +1,4 @@
-use Rattle.std.proofs.Common.{◌≡◌, ◌-◌, Some, None, sym, ◌∙◌}
+use Rattle.std.proofs.Common.{◌≡◌, ◌-◌, Some, None, unwrap_or, sym, ap, ◌∙◌}
 use Rattle.std.specs.List.{slice_get}
 use Rattle.datagram.specs.Reading.{codes_of}
 use Rattle.rollback.proofs.Sent.{sent_none, sent_some}
@@ -11,16 +11,10 @@ returns-in_default g c =
     let there : slice_get (codes_of d.codes.now) (c.args.frame - d.start) ≡ None = cc in
     c.idle.ensures ∙ sym (sent_none g.I.InputKind.reads g.I.InputKind.idle (codes_of d.codes.now) (c.args.frame - d.start) g.met.I.InputKind.idle_reads there)
 
-pub returns-in-Some-read : goal.returns-in-Some-read
-returns-in-Some-read g c =
+pub returns : goal.returns
+returns g c =
     let d = c.args.datagram.now in
     let told = c.in-Some.ensures in
     let there : slice_get (codes_of d.codes.now) (c.args.frame - d.start) ≡ Some c.in-Some.code = cc in
-    sent_some g.I.InputKind.reads g.I.InputKind.idle (codes_of d.codes.now) (c.args.frame - d.start) c.in-Some.code (Some c.in-Some-read.input) there c.in-Some-read.ensures
-
-pub returns-in-None : goal.returns-in-None
-returns-in-None g c =
-    let d = c.args.datagram.now in
-    let told = c.in-Some.ensures in
-    let there : slice_get (codes_of d.codes.now) (c.args.frame - d.start) ≡ Some c.in-Some.code = cc in
-    c.idle-in-None.ensures ∙ sent_some g.I.InputKind.reads g.I.InputKind.idle (codes_of d.codes.now) (c.args.frame - d.start) c.in-Some.code None there c.in-None.ensures
+    c.unwrap_or.ensures ∙ ap (unwrap_or c.read.result) c.idle-2.ensures
+    ∙ sent_some g.I.InputKind.reads g.I.InputKind.idle (codes_of d.codes.now) (c.args.frame - d.start) c.in-Some.code c.read.result there c.read.ensures

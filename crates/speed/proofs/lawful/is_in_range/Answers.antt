@@ -1,22 +1,17 @@
-use Rattle.std.proofs.Common.{◌≡◌, ◌+◌, drop, sym, ap, ◌∙◌, arith}
-use Rattle.std.proofs.lemmas.List.{drop_all}
-use Rattle.speed.specs.Lawful.{limits, within}
-use Rattle.speed.proofs.Sound.{over_limit, in_limit}
+use Rattle.std.proofs.Common.{◌≡◌, leb, drop, rules, tests, sym, ap, ◌∙◌, arith}
+use Rattle.std.specs.List.{list_all, zip}
+use Rattle.std.specs.Slice.Iter.{iter_rest}
+use Rattle.std.proofs.lemmas.Iterator.{YieldsList-from_slice, YieldsList-from_zip}
+use Rattle.std.proofs.lemmas.Iterator.Search.{all_from_yields_List}
+use Rattle.std.proofs.lemmas.List.{length-drop, take_all}
+use Rattle.speed.specs.Lawful.{limits}
+use Rattle.speed.proofs.Sound.{within_pairs}
 use Rattle.speed.proofs.lawful.is_in_range.Goals as goal
-
-pub returns-then-words-k : goal.returns-then-words-k
-unfolding limits
-returns-then-words-k c =
-    sym (over_limit limits c.args.words.now c.loop-k.k (52 + c.loop-k.k) (omega arith) (omega arith) c.if-words-k.true) ∙ c.loop-k.invariant
-
-pub loop-k-preserved : goal.loop-k-preserved
-unfolding limits
-loop-k-preserved c =
-    let place : 52 + (c.loop-k.k + 1) ≡ 52 + c.loop-k.k + 1 = omega arith in
-    ap (λ j. within (drop (c.loop-k.k + 1) limits) (drop j c.args.words.now)) place
-    ∙ (sym (in_limit limits c.args.words.now c.loop-k.k (52 + c.loop-k.k) (omega arith) (omega arith) c.if-words-k.false) ∙ c.loop-k.invariant)
 
 pub returns : goal.returns
 unfolding limits
 returns c =
-    sym (ap (λ ls. within ls (drop (52 + c.loop-k.k) c.args.words.now)) (drop_all c.loop-k.k limits (omega arith))) ∙ c.loop-k.invariant
+    let above = drop 52 c.args.words.now in
+    let words = YieldsList-from_slice above (ap iter_rest c.zip.ensures.first ∙ (c.iter.ensures.rest ∙ take_all 16 above (omega (arith, length-drop 52 c.args.words.now)))) in
+    let pairs : c.all.result ≡ list_all (λ p. leb p.0 p.1) (zip above limits) = all_from_yields_List (λ p. leb p.0 p.1) c.all.new.self _ c.all.result c.all.ensures.ran (YieldsList-from_zip words (YieldsList-from_slice limits c.zip.ensures.second.0)) (λ x b q k. search (rules, tests)) in
+    pairs ∙ sym (within_pairs limits above (omega (arith, length-drop 52 c.args.words.now)))

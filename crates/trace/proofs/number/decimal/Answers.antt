@@ -1,33 +1,18 @@
-use Rattle.std.proofs.Common.{◌+◌, ◌*◌, ◌≤◌, sym, ◌∙◌, arith}
-use Rattle.trace.specs.Numbers.{most_32}
-use Rattle.trace.proofs.Values.{no_digit, too_large, value_more, digits_more, number_is}
+use Rattle.std.proofs.Common.{◌≡◌, sym, subst, ◌∙◌}
+use Rattle.std.specs.Str.{IsUtf8}
+use Rattle.std.specs.Str.Parse.{ParsesUnsigned}
+use Rattle.trace.proofs.Decimals.{no_numeral, always_text, of_text, number_parsed}
 use Rattle.trace.proofs.number.decimal.Goals as goal
 
-pub returns-then-not-is_ascii_digit : goal.returns-then-not-is_ascii_digit
-returns-then-not-is_ascii_digit c = no_digit most_32 c.args.word.now c.loop-b.b-index c.loop-b-test.true (sym c.is_ascii_digit.ensures.value ∙ c.if-not-is_ascii_digit.true) c.loop-b.invariant.1
+pub returns-then-not-is_numeral : goal.returns-then-not-is_numeral
+returns-then-not-is_numeral c = no_numeral c.args.word.now (sym c.is_numeral.ensures ∙ c.if-not-is_numeral.true)
 
-pub returns-in_err-checked_mul : goal.returns-in_err-checked_mul
-returns-in_err-checked_mul c =
-    let over : 4294967296 ≤ c.loop-b.value * 10 = omega (arith, c.in_err-checked_mul.ensures) in
-    c.from_residual.ensures ∙ too_large most_32 c.args.word.now c.loop-b.b-index c.loop-b.value c.loop-b-test.true c.loop-b.invariant.0 (omega arith)
-
-pub returns-in_err-value : goal.returns-in_err-value
-returns-in_err-value c =
-    let ten = c.in_ok-checked_mul.ensures.1 in
-    let d = c.from.ensures in
-    let over : 4294967296 ≤ c.in_ok-checked_mul.field-0 + c.from.result = omega (arith, c.in_err-value.ensures) in
-    c.from_residual-in_err-value.ensures ∙ too_large most_32 c.args.word.now c.loop-b.b-index c.loop-b.value c.loop-b-test.true c.loop-b.invariant.0 (omega arith)
-
-pub loop-b-preserved : goal.loop-b-preserved
-loop-b-preserved c =
-    let ten = c.in_ok-checked_mul.ensures.1 in
-    let sum = c.in_ok-value.ensures.1 in
-    let d = c.from.ensures in (
-      value_more c.args.word.now c.loop-b.b-index c.loop-b.value c.in_ok-value.value c.loop-b-test.true c.loop-b.invariant.0 (omega arith),
-      digits_more c.args.word.now c.loop-b.b-index c.loop-b-test.true (sym c.is_ascii_digit.ensures.value ∙ c.if-not-is_ascii_digit.false) c.loop-b.invariant.1,
-      omega (arith, c.in_ok-value.ensures.0),
-    )
+pub returns-in_err-ok : goal.returns-in_err-ok
+returns-in_err-ok c = always_text c.args.word.now c.from_utf8.result _ _ (sym c.is_numeral.ensures ∙ c.if-not-is_numeral.false) c.from_utf8.ensures.cases (sym c.ok.ensures.value ∙ c.in_err-ok.was)
 
 pub returns : goal.returns
 returns c =
-    number_is most_32 c.args.word.now c.loop-b.b-index c.loop-b.value c.loop-b-test.false (sym c.no_leading_zero.ensures ∙ c.if-not-no_leading_zero.false) c.loop-b.invariant.2 c.loop-b.invariant.0 c.loop-b.invariant.1
+    let w = c.args.word.now in
+    let text = of_text c.from_utf8.result c.in_ok-ok.field-0 (λ s. (s.now ≡ w) × IsUtf8 w) _ c.from_utf8.ensures.cases (sym c.ok.ensures.value ∙ c.in_ok-ok.was) in
+    let parsed = subst (λ bs. ParsesUnsigned 32 10 bs c.parse.result) text.0 c.parse.ensures.value.0 in
+    c.ok-2.ensures.value ∙ number_parsed w c.parse.result (sym c.is_numeral.ensures ∙ c.if-not-is_numeral.false) parsed

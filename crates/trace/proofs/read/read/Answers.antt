@@ -1,13 +1,9 @@
-use Rattle.std.proofs.Common.{sym, subst}
-use Rattle.std.proofs.lemmas.Result.{IfOk-weaker}
-use Rattle.trace.specs.Laws.{Faithful}
-use Rattle.trace.proofs.Whole.{faithful}
+use Rattle.std.proofs.Common.{rules}
+use Rattle.trace.proofs.Whole.{faithful_to}
 use Rattle.trace.proofs.read.read.Goals as goal
 
-pub returns : goal.returns
-returns c =
-    let text = c.args.text.now in
-    record {
-      reading = c.read_lines.ensures;
-      laws = IfOk-weaker c.read_lines.result _ _ (λ t e. subst (Faithful text) (sym e) (faithful text)) c.read_lines.ensures;
-    }
+pub returns-in_ok-turns-in-Ok-clause-laws : goal.returns-in_ok-turns-in-Ok-clause-laws
+returns-in_ok-turns-in-Ok-clause-laws c = faithful_to c.args.text.now _ (search rules)
+
+pub returns-in-Err-clause-laws : goal.returns-in-Err-clause-laws
+returns-in-Err-clause-laws c = faithful_to c.args.text.now _ (search rules)

@@ -11,10 +11,10 @@ returns c =
     let d = fields_of c.args.self.now in
     let old = c.args.buffer.now in
     let same = c.as_slice-codes.ensures.codes in
-    let count = c.as_slice-codes.ensures.size in
+    let count = ap length same in
     let first = c.put.ensures ∙ ap (spliced old 0) c.header.ensures.bytes in
     let second = c.put_codes.ensures.bytes ∙ ap (λ cs. spliced c.put.new.buffer 19 (code_bytes cs)) same in
-    let third = c.put-2.ensures ∙ ap (spliced c.put_codes.new.buffer (19 + 2 * length c.as_slice-codes.result.now)) (c.two_bytes.ensures.bytes ∙ ap two_bytes c.check_word-word.ensures) in
+    let third = c.put-2.ensures ∙ ap (spliced c.put_codes.new.buffer (19 + 2 * length c.as_slice-codes.result.now)) (c.to_le_bytes.ensures ∙ ap two_bytes c.check_word-word.ensures) in
     let whole = all_put d old _ _ _ _ _ (ap (λ n. 19 + 2 * n) count) first second (search rules) third in
     record {
       bytes = whole;

@@ -1,7 +1,6 @@
-use Rattle.std.proofs.Common.{◌≡◌, ◌<◌, sym, subst}
-use Rattle.duel.specs.declared.board.Player.{Player}
+use Rattle.std.proofs.Common.{◌≡◌, sym, subst}
 use Rattle.duel.specs.Boards.{Within, first_moved, second_moved}
-use Rattle.duel.specs.Moves.{sound_from, first_moved_in, second_moved_in, first_moved_score, second_moved_score}
+use Rattle.duel.specs.Moves.{sound_from, first_moved_in, second_moved_in}
 use Rattle.duel.proofs.board.Board.play.Goals as goal
 use Rattle.duel.proofs.board.Board.play.Goals.{After-moved-two}
 
@@ -13,24 +12,13 @@ two_is : (c : After-moved-two) → c.moved-two.result ≡ second_moved c.args.se
 unfolding second_moved
 two_is c = cc
 
-abbrev Ready : Player → Type 0
-Ready p = record { place : Within p.cell; room : p.score < 65536 }
-
 pub fired-requires : goal.fired-requires
 fired-requires c =
-    let s = sound_from c.args.self c.requires in
-    subst Ready (sym (one_is c)) (record {
-      place = first_moved_in c.args.self s c.args.first c.args.second;
-      room = subst (λ n. n < 65536) (sym (first_moved_score c.args.self s c.args.first c.args.second)) s.first_score;
-    })
+    subst (λ p. Within p.cell) (sym (one_is c)) (first_moved_in c.args.self (sound_from c.args.self c.requires) c.args.first c.args.second)
 
 pub fired-requires-2 : goal.fired-requires-2
 fired-requires-2 c =
-    let s = sound_from c.args.self c.requires in
-    subst Ready (sym (two_is (goal.at.fired-requires-2 c).After-moved-two)) (record {
-      place = second_moved_in c.args.self s c.args.first c.args.second;
-      room = subst (λ n. n < 65536) (sym (second_moved_score c.args.self s c.args.first c.args.second)) s.second_score;
-    })
+    subst (λ p. Within p.cell) (sym (two_is (goal.at.fired-requires-2 c).After-moved-two)) (second_moved_in c.args.self (sound_from c.args.self c.requires) c.args.first c.args.second)
 
 pub returns : goal.returns
 returns c =

@@ -10,13 +10,9 @@ invariant_of-self c =
     let b = c.args.self.now.board in
     record { lawful = subst (λ a. sound a ≡ true) (sym c.play-self.ensures) (sound_test _ (played_sound b (sound_from b c.args.self.now.lawful) c.args.first c.args.second)) }
 
-pub returns : goal.returns
-returns c =
+pub returns-clause-frame : goal.returns-clause-frame
+returns-clause-frame c =
     let b = c.args.self.now.board in
     let i = c.args.first in
     let j = c.args.second in
-    record {
-      board = c.play-self.ensures;
-      trail = cc;
-      frame = subst (λ a. Frame b a i j) (sym c.play-self.ensures) (framed b (sound_from b c.args.self.now.lawful) i j);
-    }
+    subst (λ a. Frame b a i j) (sym c.play-self.ensures) (framed b (sound_from b c.args.self.now.lawful) i j)

@@ -9,5 +9,5 @@ returns g c =
       answer = grind (arith, nat_tests);
       next = grind (arith, nat_tests);
       slots = grind (arith, nat_tests);
-      reads = λ _. held_after c.args.slots.now c.args.self.now.next c.args.frame c.args.value c.max.result c.max.ensures (omega arith) (omega arith) (omega arith);
+      reads = λ _. held_after c.args.slots.now c.args.self.now.next c.args.frame c.args.value c.max-self.result c.max-self.ensures (omega arith) (grind (arith, nat_tests)) (grind (arith, nat_tests));
     }

@@ -1,6 +1,6 @@
 use Rattle.std.proofs.Common.{◌≡◌, Bool, true, false, cond, sym, refl, subst}
 use Rattle.rollback.specs.Inputs.{setting}
-use Rattle.seat.specs.Calls.{take_answer, take_leaves}
+use Rattle.seat.specs.Calls.{or_refused, take_refusal, take_accepted, take_leaves}
 use Rattle.refine.specs.Memory.{slot_lists}
 use Rattle.match_engine.specs.Meaning.{seat_view, KeepsRest}
 use Rattle.match_engine.proofs.Doing.{at_seat}
@@ -14,9 +14,9 @@ returns-then-second g c =
     let m = c.args.self.now in
     let bytes = c.args.bytes.now in
     record {
-      answer = subst (λ s. c.take.result ≡ take_answer (r s) (seat_view g.K0.Keeper.kept g.K1.Keeper.kept m s lent) bytes) (sym e) c.take.ensures.answer;
-      leaves = at_seat g.K0.Keeper.kept g.K1.Keeper.kept m (record { first = m.first; second = c.take.new.self; sent = m.sent }) c.args.second lent _ (λ s v. take_leaves (r s) v bytes) true e c.take.ensures.leaves;
-      rest = subst (λ s. KeepsRest g.row.G-Input.Denot g.K0.Keeper.kept g.K1.Keeper.kept m (record { first = m.first; second = c.take.new.self; sent = m.sent }) s) (sym e) (λ x. refl, refl);
+      answer = subst (λ s. c.try_take.result ≡ or_refused (take_refusal (r s) (seat_view g.K0.Keeper.kept g.K1.Keeper.kept m s lent) bytes) (take_accepted (r s) (seat_view g.K0.Keeper.kept g.K1.Keeper.kept m s lent) bytes)) (sym e) c.try_take.ensures.answer;
+      leaves = at_seat g.K0.Keeper.kept g.K1.Keeper.kept m (record { first = m.first; second = c.try_take.new.self; sent = m.sent }) c.args.second lent _ (λ s v. take_leaves (r s) v bytes) true e c.try_take.ensures.leaves;
+      rest = subst (λ s. KeepsRest g.row.G-Input.Denot g.K0.Keeper.kept g.K1.Keeper.kept m (record { first = m.first; second = c.try_take.new.self; sent = m.sent }) s) (sym e) (λ x. refl, refl);
     }
 
 pub returns : goal.returns
@@ -27,7 +27,7 @@ returns g c =
     let m = c.args.self.now in
     let bytes = c.args.bytes.now in
     record {
-      answer = subst (λ s. c.take-answer.result ≡ take_answer (r s) (seat_view g.K0.Keeper.kept g.K1.Keeper.kept m s lent) bytes) (sym e) c.take-answer.ensures.answer;
-      leaves = at_seat g.K0.Keeper.kept g.K1.Keeper.kept m (record { first = c.take-answer.new.self; second = m.second; sent = m.sent }) c.args.second lent _ (λ s v. take_leaves (r s) v bytes) false e c.take-answer.ensures.leaves;
-      rest = subst (λ s. KeepsRest g.row.G-Input.Denot g.K0.Keeper.kept g.K1.Keeper.kept m (record { first = c.take-answer.new.self; second = m.second; sent = m.sent }) s) (sym e) (λ x. refl, refl);
+      answer = subst (λ s. c.try_take-answer.result ≡ or_refused (take_refusal (r s) (seat_view g.K0.Keeper.kept g.K1.Keeper.kept m s lent) bytes) (take_accepted (r s) (seat_view g.K0.Keeper.kept g.K1.Keeper.kept m s lent) bytes)) (sym e) c.try_take-answer.ensures.answer;
+      leaves = at_seat g.K0.Keeper.kept g.K1.Keeper.kept m (record { first = c.try_take-answer.new.self; second = m.second; sent = m.sent }) c.args.second lent _ (λ s v. take_leaves (r s) v bytes) false e c.try_take-answer.ensures.leaves;
+      rest = subst (λ s. KeepsRest g.row.G-Input.Denot g.K0.Keeper.kept g.K1.Keeper.kept m (record { first = c.try_take-answer.new.self; second = m.second; sent = m.sent }) s) (sym e) (λ x. refl, refl);
     }

@@ -5,6 +5,7 @@ use Rattle.datagram.specs.Reading.{read_of}
 use Rattle.rollback.specs.Inputs.{setting}
 use Rattle.seat.specs.Calls.{or_refused, read_checked, end_of}
 use Rattle.seat.specs.Meaning.{view}
+use Rattle.seat.proofs.Checks.{seat_is}
 use Rattle.seat.proofs.Takes.{pass, confirms_from}
 use Rattle.seat.proofs.state.Seat.check_take.Goals as goal
 
@@ -19,7 +20,7 @@ returns g c =
     let told = c.in_ok-datagram.ensures in
     let ok = pass s v d (record {
       this_match = c.if-datagram-self.false;
-      other_seat = c.if-datagram-seat_byte.false ∙ c.seat_byte.ensures;
+      other_seat = c.if-datagram-from.false ∙ c.from.ensures ∙ seat_is _;
       codes_read = sym c.if-not-all_read.ensures;
       starts = omega arith;
       ends_near = omega arith;

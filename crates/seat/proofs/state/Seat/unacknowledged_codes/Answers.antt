@@ -1,3 +1,4 @@
+use Rattle.std.specs.Prelude.{is_ok}
 use Rattle.std.proofs.Common.{◌≡◌, ◌-◌, map, sym, ap, ◌∙◌, arith}
 use Rattle.std.specs.List.{range_with_len}
 use Rattle.rollback.specs.Inputs.{setting, input_at}
@@ -15,7 +16,7 @@ pub loop-frame-preserved : goal.loop-frame-preserved
 loop-frame-preserved g c =
     let s = setting g.G.Game.next g.G.Input.InputKind.idle g.G.Input.InputKind.reads g.G.Input.InputKind.code g.H.GuessRule.guessed in
     let few = c.args.self.now.unacknowledged in
-    code_more (λ f. s.code (input_at s c.args.own.now c.args.self.now.own.next f)) c.args.self.now.acknowledged c.loop-frame.frame c.code.result _ _ c.push.result
+    code_more (λ f. s.code (input_at s c.args.own.now c.args.self.now.own.next f)) c.args.self.now.acknowledged c.loop-frame.frame c.code.result _ _ (is_ok c.push.result)
     c.loop-frame.auto.frame (omega arith) (c.code.ensures ∙ ap s.code c.input_at.ensures) c.loop-frame.invariant c.push.ensures.answer c.push.ensures.codes
 
 pub returns : goal.returns
