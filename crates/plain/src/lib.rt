@@ -23,6 +23,7 @@ pub fn counts_stay_close<S, I>() -> u32
     most
 }
 
+// The laws, for the number that is answered: it has no type of its own, since the answer is what a law speaks of. So with those below.
 fn count_laws<S, I>(most: u32)
     requires { most_lead + most_lead ≤ most }
     ensures counts { CountsHold S I }

@@ -127,7 +127,7 @@ fn open_fronts<
 }
 
 // Opens a match and makes a whole list of turns of it. Each seat is brought 32 slots or more of each kind, and the first 32 are
-// its own. Refused, it leaves all as it was.
+// its own. Refused, it leaves all as it was. Turns and what is told of them are slices, since the engine has no heap.
 pub fn play<
     G: Game,
     K0: Keeper<G>,

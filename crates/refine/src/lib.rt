@@ -26,6 +26,7 @@ pub fn openings_stand<I>() -> usize
     slots
 }
 
+// The laws, for the number that is answered: it has no type of its own, since the answer is what a law speaks of. So with those below.
 fn opening_laws<I>(slots: usize)
     requires { slots ≡ queue_slots }
     ensures stand { OpeningsStand I slots }

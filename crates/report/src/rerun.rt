@@ -33,7 +33,8 @@ fn end_of<G: Game, K: Keeper<G>, H: GuessRule<G::Input>>(seat: &Seat<G, K, H>) -
     }
 }
 
-// Makes the turns of a fresh match: what is told of each, and both seats at the end.
+// Makes the turns of a fresh match: what is told of each, and both seats at the end. What is lent goes one by one, here and in
+// `replay_turns`: of a struct of `&mut` that is handed on whole nothing is proved of what it leaves.
 pub(crate) fn rerun<
     G: Game,
     K0: Keeper<G> + Drop,
