@@ -22,11 +22,16 @@ use rollback::inputs::{Held, Window};
 use rollback::news::{end_of, keep_codes, lowest_change};
 use rollback::replaying::pay_off;
 
-// Whether every code of the datagram reads.
+// Whether every code of the datagram reads, asked before anything is changed.
 fn all_read<I: InputKind>(datagram: &Datagram<&[u8]>) -> bool
     ensures { result ≡ all_read I.reads (codes_in datagram.now) }
 {
-    datagram.codes().all(|code| I::read(code).is_some())
+    for code in datagram.codes() {
+        let Some(_) = I::read(code) else {
+            return false;
+        };
+    }
+    true
 }
 
 impl<G: Game, K: Keeper<G>, H: GuessRule<G::Input>> Seat<G, K, H> {
