@@ -138,6 +138,24 @@ mod tests {
         Ok(())
     }
 
+    // 33 codes, with a length that fits and the right check word; and 32, which are read.
+    #[test]
+    fn one_code_too_many(rt: HostRuntime) {
+        let mut bytes = [0u8; 87];
+        for (place, byte) in [(0usize, 82u8), (1, 66), (2, 75), (3, 1), (6, 7), (10, 32)] {
+            bytes[place] = byte;
+        }
+        bytes[83] = 76;
+        bytes[84] = 3;
+        assert_eq!(rt; answer(&bytes[..85]), 0);
+        bytes[10] = 33;
+        bytes[83] = 0;
+        bytes[84] = 0;
+        bytes[85] = 87;
+        bytes[86] = 3;
+        assert_eq!(rt; answer(&bytes), 1);
+    }
+
     // Every place and every other byte.
     #[test]
     fn one_byte_altered(rt: HostRuntime) -> Result<(), Fail> {

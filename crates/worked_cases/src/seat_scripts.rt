@@ -226,6 +226,21 @@ static SCRIPTS: [Script; 6] = [
                 Ok((Acceptance::Accepted, 0)),
             ),
             Step::Counts(3, 11, 3),
+            // A code that is not read is refused as the last of three too, and where the frames are known.
+            Step::Take(
+                Forged {
+                    codes: &[0, 0, 999],
+                    ..GOOD
+                },
+                Err(Refusal::UnreadCode),
+            ),
+            Step::Take(
+                Forged {
+                    codes: &[13],
+                    ..GOOD
+                },
+                Err(Refusal::UnreadCode),
+            ),
             Step::Late(GOOD),
             Step::Late(Forged {
                 codes: &[2; 3],
@@ -263,9 +278,11 @@ static SCRIPTS: [Script; 6] = [
         name: "codes that were guessed",
         steps: &[
             Step::Press(0, 3, Ok(())),
+            // The report is on the datagram's end.
             Step::Take(
                 Forged {
                     codes: &[0; 2],
+                    report_frame: 2,
                     ..GOOD
                 },
                 Ok((Acceptance::Accepted, 0)),
@@ -290,6 +307,18 @@ static SCRIPTS: [Script; 6] = [
                 ..GOOD
             }),
             Step::Counts(3, 2, 0),
+            // A report is on R at most, where the datagram ends before it.
+            Step::Late(Forged {
+                report_frame: 2,
+                ..GOOD
+            }),
+            Step::Take(
+                Forged {
+                    report_frame: 3,
+                    ..GOOD
+                },
+                Err(Refusal::ReportTooLate),
+            ),
             Step::Take(
                 Forged {
                     start: 2,
@@ -396,6 +425,10 @@ static SCRIPTS: [Script; 6] = [
         steps: &[
             Step::Ahead(5),
             Step::Counts(40, 40, 32),
+            Step::Late(Forged {
+                codes: &[2; 32],
+                ..GOOD
+            }),
             Step::Late(Forged {
                 report_frame: 8,
                 digest: Report::Held(1),
