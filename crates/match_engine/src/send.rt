@@ -2,6 +2,7 @@
 ghost use Rattle.std.specs.Prelude.{◌≡◌, length, if◌then◌else◌};
 ghost use Rattle.interface.specs.Games.{State};
 ghost use Rattle.rollback.specs.Inputs.{setting};
+ghost use Rattle.seat.specs.Laws.{Refused};
 ghost use Rattle.seat.specs.Calls.{or_refused, send_refusal};
 ghost use Rattle.seat.specs.Meaning.{view};
 ghost use Rattle.refine.specs.Setup.{setup};
@@ -85,7 +86,8 @@ impl<G: Game, K0: Keeper<G>, K1: Keeper<G>, H0: GuessRule<G::Input>, H1: GuessRu
 
     // Sends at a seat: its datagram joins the log. Seat and answer are numbers as in `press`.
     pub fn send(&mut self, seat: u32, slots: Slots<'_, G::Input>, log: &mut [Record]) -> u32
-        ensures { (opening : State) (rest : SlotLists G.Input) → Does (setup opening G.next G.Input.idle G.Input.reads G.Input.code H0.guessed H1.guessed) (memory K0.kept K1.kept self.old seat (slot_lists slots.entry.own.now slots.entry.other.now slots.entry.digests.now) rest (entries log.old)) seat Sending (outcome (memory K0.kept K1.kept self.new seat (slot_lists slots.exit.0.now slots.exit.1.0.now slots.exit.1.1.0.now) rest (entries log.new)) result 0) }
+        ensures does { (opening : State) (rest : SlotLists G.Input) → Does (setup opening G.next G.Input.idle G.Input.reads G.Input.code H0.guessed H1.guessed) (memory K0.kept K1.kept self.old seat (slot_lists slots.entry.own.now slots.entry.other.now slots.entry.digests.now) rest (entries log.old)) seat Sending (outcome (memory K0.kept K1.kept self.new seat (slot_lists slots.exit.0.now slots.exit.1.0.now slots.exit.1.1.0.now) rest (entries log.new)) result 0) }
+        ensures same { Refused result → self.new ≡ self.old }
     {
         if seat > 1 {
             return Refusal::NoSuchSeat.number();

@@ -1,7 +1,8 @@
 // Take: a datagram of the log, handed to a seat.
-ghost use Rattle.std.specs.Prelude.{◌≡◌, if◌then◌else◌};
+ghost use Rattle.std.specs.Prelude.{◌≡◌, false, is_ok, if◌then◌else◌};
 ghost use Rattle.interface.specs.Games.{State};
 ghost use Rattle.rollback.specs.Inputs.{setting};
+ghost use Rattle.seat.specs.Laws.{Refused};
 ghost use Rattle.seat.specs.Calls.{or_refused, take_refusal, take_accepted, take_leaves};
 ghost use Rattle.refine.specs.Setup.{setup};
 ghost use Rattle.refine.specs.Memory.{SlotLists, slot_lists};
@@ -35,6 +36,7 @@ impl<G: Game, K0: Keeper<G>, K1: Keeper<G>, H0: GuessRule<G::Input>, H1: GuessRu
     ) -> Result<(Acceptance, u32), Refusal>
         ensures answer { result ≡ or_refused (take_refusal (setting G.next G.Input.idle G.Input.reads G.Input.code (if second then H1.guessed else H0.guessed)) (seat_view K0.kept K1.kept self.old second (slot_lists slots.entry.own.now slots.entry.other.now slots.entry.digests.now)) bytes.now) (take_accepted (setting G.next G.Input.idle G.Input.reads G.Input.code (if second then H1.guessed else H0.guessed)) (seat_view K0.kept K1.kept self.old second (slot_lists slots.entry.own.now slots.entry.other.now slots.entry.digests.now)) bytes.now) }
         ensures leaves { seat_view K0.kept K1.kept self.new second (slot_lists slots.exit.0.now slots.exit.1.0.now slots.exit.1.1.0.now) ≡ take_leaves (setting G.next G.Input.idle G.Input.reads G.Input.code (if second then H1.guessed else H0.guessed)) (seat_view K0.kept K1.kept self.old second (slot_lists slots.entry.own.now slots.entry.other.now slots.entry.digests.now)) bytes.now }
+        ensures same { is_ok result ≡ false → self.new ≡ self.old }
         ensures rest { KeepsRest G.Input K0.kept K1.kept self.old self.new second }
     {
         let Slots {
@@ -62,7 +64,8 @@ impl<G: Game, K0: Keeper<G>, K1: Keeper<G>, H0: GuessRule<G::Input>, H1: GuessRu
         log: &[Record],
         k: u32,
     ) -> (u32, u32)
-        ensures { (opening : State) (rest : SlotLists G.Input) → Does (setup opening G.next G.Input.idle G.Input.reads G.Input.code H0.guessed H1.guessed) (memory K0.kept K1.kept self.old seat (slot_lists slots.entry.own.now slots.entry.other.now slots.entry.digests.now) rest (entries log.now)) seat (Taking k) (outcome (memory K0.kept K1.kept self.new seat (slot_lists slots.exit.0.now slots.exit.1.0.now slots.exit.1.1.0.now) rest (entries log.now)) result.0 result.1) }
+        ensures does { (opening : State) (rest : SlotLists G.Input) → Does (setup opening G.next G.Input.idle G.Input.reads G.Input.code H0.guessed H1.guessed) (memory K0.kept K1.kept self.old seat (slot_lists slots.entry.own.now slots.entry.other.now slots.entry.digests.now) rest (entries log.now)) seat (Taking k) (outcome (memory K0.kept K1.kept self.new seat (slot_lists slots.exit.0.now slots.exit.1.0.now slots.exit.1.1.0.now) rest (entries log.now)) result.0 result.1) }
+        ensures same { Refused result.0 → self.new ≡ self.old }
     {
         if seat > 1 {
             return (Refusal::NoSuchSeat.number(), 0);

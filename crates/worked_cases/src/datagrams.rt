@@ -141,18 +141,13 @@ mod tests {
     // 33 codes, with a length that fits and the right check word; and 32, which are read.
     #[test]
     fn one_code_too_many(rt: HostRuntime) {
+        let mut read = [0u8; 85];
+        read[..11].copy_from_slice(&[82, 66, 75, 1, 0, 0, 7, 0, 0, 0, 32]);
+        read[83..].copy_from_slice(&[76, 3]);
+        assert_eq!(rt; answer(&read), 0);
         let mut bytes = [0u8; 87];
-        for (place, byte) in [(0usize, 82u8), (1, 66), (2, 75), (3, 1), (6, 7), (10, 32)] {
-            bytes[place] = byte;
-        }
-        bytes[83] = 76;
-        bytes[84] = 3;
-        assert_eq!(rt; answer(&bytes[..85]), 0);
-        bytes[10] = 33;
-        bytes[83] = 0;
-        bytes[84] = 0;
-        bytes[85] = 87;
-        bytes[86] = 3;
+        bytes[..11].copy_from_slice(&[82, 66, 75, 1, 0, 0, 7, 0, 0, 0, 33]);
+        bytes[85..].copy_from_slice(&[87, 3]);
         assert_eq!(rt; answer(&bytes), 1);
     }
 

@@ -8,15 +8,15 @@ use Rattle.match_engine.proofs.Doing.{no_seat, press_does}
 use Rattle.match_engine.proofs.state.Match.press.Goals.{in-Ok, in-Err}
 use Rattle.match_engine.proofs.state.Match.press.Goals as goal
 
-pub returns-then-seat-gt1 : goal.returns-then-seat-gt1
-returns-then-seat-gt1 g c opening rest log =
+pub returns-then-seat-gt1-clause-does : goal.returns-then-seat-gt1-clause-does
+returns-then-seat-gt1-clause-does g c opening rest log =
     let a = setup opening g.G.Game.next g.G.Input.InputKind.idle g.G.Input.InputKind.reads g.G.Input.InputKind.code g.H0.GuessRule.guessed g.H1.GuessRule.guessed in
     let lent = slot_lists c.args.slots.own.now c.args.slots.other.now c.args.slots.digests.now in
     let b = memory g.K0.Keeper.kept g.K1.Keeper.kept c.args.self.now c.args.seat lent rest log in
     no_seat a (record { fits = g.met.G.Input.InputKind.code_fits; reads_back = g.met.G.Input.InputKind.reads_back }) b c.args.seat (Pressing c.args.code) tt c.number.result (omega arith) c.number.ensures
 
-pub returns : goal.returns
-returns g c opening rest log =
+pub returns-clause-does : goal.returns-clause-does
+returns-clause-does g c opening rest log =
     let a = setup opening g.G.Game.next g.G.Input.InputKind.idle g.G.Input.InputKind.reads g.G.Input.InputKind.code g.H0.GuessRule.guessed g.H1.GuessRule.guessed in
     let lent = slot_lists c.args.slots.own.now c.args.slots.other.now c.args.slots.digests.now in
     press_does g.K0.Keeper.kept g.K1.Keeper.kept a (record { fits = g.met.G.Input.InputKind.code_fits; reads_back = g.met.G.Input.InputKind.reads_back }) c.args.self.now c.press_by.new.self c.args.seat (omega arith) lent _ rest log c.press_by.ensures.rest c.args.code c.match-press_by.result

@@ -11,8 +11,8 @@ use Rattle.match_engine.proofs.Logs.{past_log, past_sent, own_sent, others_sent,
 use Rattle.match_engine.proofs.state.Match.take.Goals.{then-at-log-via-then-at-log, then-at-log-via-else-at-log+then-at-self, then-at-log-via-else-at-log+else-at-self+then-log-at, in-Ok, in-Err}
 use Rattle.match_engine.proofs.state.Match.take.Goals as goal
 
-pub returns-then-seat-gt1 : goal.returns-then-seat-gt1
-returns-then-seat-gt1 g c opening rest =
+pub returns-then-seat-gt1-clause-does : goal.returns-then-seat-gt1-clause-does
+returns-then-seat-gt1-clause-does g c opening rest =
     let a = setup opening g.G.Game.next g.G.Input.InputKind.idle g.G.Input.InputKind.reads g.G.Input.InputKind.code g.H0.GuessRule.guessed g.H1.GuessRule.guessed in
     let lent = slot_lists c.args.slots.own.now c.args.slots.other.now c.args.slots.digests.now in
     let m = c.args.self.now in
@@ -21,8 +21,8 @@ returns-then-seat-gt1 g c opening rest =
     let b = memory g.K0.Keeper.kept g.K1.Keeper.kept m n lent rest (entries log) in
     no_seat a (record { fits = g.met.G.Input.InputKind.code_fits; reads_back = g.met.G.Input.InputKind.reads_back }) b n (Taking c.args.k) tt c.number.result (omega arith) c.number.ensures
 
-pub returns-then-not-are_whole : goal.returns-then-not-are_whole
-returns-then-not-are_whole g c opening rest =
+pub returns-then-not-are_whole-clause-does : goal.returns-then-not-are_whole-clause-does
+returns-then-not-are_whole-clause-does g c opening rest =
     let a = setup opening g.G.Game.next g.G.Input.InputKind.idle g.G.Input.InputKind.reads g.G.Input.InputKind.code g.H0.GuessRule.guessed g.H1.GuessRule.guessed in
     let lent = slot_lists c.args.slots.own.now c.args.slots.other.now c.args.slots.digests.now in
     let m = c.args.self.now in
@@ -31,8 +31,8 @@ returns-then-not-are_whole g c opening rest =
     let b = memory g.K0.Keeper.kept g.K1.Keeper.kept m n lent rest (entries log) in
     wrong_slots a (record { fits = g.met.G.Input.InputKind.code_fits; reads_back = g.met.G.Input.InputKind.reads_back }) b n (Taking c.args.k) tt c.number-then-not-are_whole.result (omega arith) (lent_whole g.K0.Keeper.kept g.K1.Keeper.kept m n lent rest (entries log) false (sym c.if-not-are_whole.ensures)) c.number-then-not-are_whole.ensures
 
-pub returns-then-at-log : goal.returns-then-at-log
-returns-then-at-log g c opening rest =
+pub returns-then-at-log-clause-does : goal.returns-then-at-log-clause-does
+returns-then-at-log-clause-does g c opening rest =
     let a = setup opening g.G.Game.next g.G.Input.InputKind.idle g.G.Input.InputKind.reads g.G.Input.InputKind.code g.H0.GuessRule.guessed g.H1.GuessRule.guessed in
     let lent = slot_lists c.args.slots.own.now c.args.slots.other.now c.args.slots.digests.now in
     let m = c.args.self.now in
@@ -47,8 +47,8 @@ returns-then-at-log g c opening rest =
     ])
     c.number-then-at-log.ensures
 
-pub returns : goal.returns
-returns g c opening rest =
+pub returns-clause-does : goal.returns-clause-does
+returns-clause-does g c opening rest =
     let a = setup opening g.G.Game.next g.G.Input.InputKind.idle g.G.Input.InputKind.reads g.G.Input.InputKind.code g.H0.GuessRule.guessed g.H1.GuessRule.guessed in
     let lent = slot_lists c.args.slots.own.now c.args.slots.other.now c.args.slots.digests.now in
     let m = c.args.self.now in
