@@ -1,3 +1,4 @@
 pub mod Around
+pub mod Kept
 pub mod Redone
 pub mod Undone

@@ -2,7 +2,8 @@
 use Rattle.std.proofs.Common.{◌≡◌, ℕ, ◌+◌, true, false, List, [], ◌∷◌, length, drop, is_ok, Some, None, Option, Result, sym, refl, ap, ◌∙◌, arith, length-drop}
 use Rattle.std.specs.List.{slice_get}
 use Rattle.std.proofs.lemmas.Bool.{true≢false, false≢true}
-use Rattle.std.proofs.lemmas.List.{drop-drop}
+use Rattle.std.proofs.lemmas.List.{drop_all, drop-drop}
+use Rattle.std.proofs.lemmas.Option.{slice_get_cases}
 use Rattle.interface.proofs.Places.{drop_from_slice_get}
 use Rattle.interface.specs.Games.{State, or_unlawful, or_kept}
 use Rattle.interface.specs.declared.answers.Refusal.{Refusal}
@@ -21,7 +22,10 @@ module _ (undone : State → List ℕ → Option State) where
   pub reached_more : (s : State) (ts : List (List ℕ)) (k : ℕ) (t : List ℕ) (o : Option State) → slice_get ts k ≡ Some t → undone s t ≡ o → reached undone (Some s) (drop k ts) ≡ s ∷ reached undone o (drop (k + 1) ts)
   reached_more s ts k t o e u = ap (reached undone (Some s)) (drop_from_slice_get ts k t e) ∙ ap (λ p. s ∷ reached undone p (drop (k + 1) ts)) u
 
-  -- with k undone and the rest still to be reached: the next trail fails
+  -- with k undone and the rest still to be reached: no trail is left, or the next fails
+  pub stuck_none : (ss : List State) (s : State) (ts : List (List ℕ)) (k : ℕ) → reached undone (Some s) (drop k ts) ≡ drop k ss → slice_get ts k ≡ None → length ss ≡ k + 1
+  stuck_none ss s ts k inv e = last_left ss k s (sym inv ∙ ap (reached undone (Some s)) (drop_all k ts (grind (arith, slice_get_cases))))
+
   pub stuck_failed : (ss : List State) (s : State) (ts : List (List ℕ)) (k : ℕ) (t : List ℕ) → reached undone (Some s) (drop k ts) ≡ drop k ss → slice_get ts k ≡ Some t → undone s t ≡ None → length ss ≡ k + 1
   stuck_failed ss s ts k t inv e u = last_left ss k s (sym inv ∙ reached_more s ts k t None e u)
 

@@ -4,14 +4,16 @@ use Rattle.std.proofs.Common.{arith}
 use Rattle.std.proofs.lemmas.List.{length-map}
 use Rattle.interface.specs.Games.{State}
 use Rattle.interface.specs.Keepers.{Kept}
+use Rattle.keepers.specs.declared.ring.Ring.{Ring}
+use Rattle.keepers.specs.Rings.{items, items_few}
 
--- by snapshots: the newest state and those before it, eight at most
-abbrev pub kept_by_snapshots : {G : Type 0} → (G → State) → G → (before : List G) → length before ≤ 8 → Kept
-kept_by_snapshots words game before few =
+-- by snapshots: the newest state and those in the ring
+abbrev pub kept_by_snapshots : {G : Type 0} → (G → State) → G → Ring G → Kept
+kept_by_snapshots words game before =
     record {
-      states = words game ∷ map words before;
+      states = words game ∷ map words (items before);
       some = omega arith;
-      few = let l = length-map before words in omega arith;
+      few = let h = items_few before in let l = length-map (items before) words in omega arith;
     }
 
 -- a state, and those before it by one trail after another, for as long as undoing succeeds
@@ -31,11 +33,11 @@ reached_few undone None ts = omega arith
 reached_few undone (Some s) [] = omega arith
 reached_few undone (Some s) (t ∷ ts) = let h = reached_few undone (undone s t) ts in omega arith
 
--- by trails: what the trails lead back to, eight at most
-abbrev pub kept_by_trails : (State → List ℕ → Option State) → State → (trails : List (List ℕ)) → length trails ≤ 8 → Kept
-kept_by_trails undone newest trails few =
+-- by trails: what the ring's trails lead back to
+abbrev pub kept_by_trails : (State → List ℕ → Option State) → State → Ring (List ℕ) → Kept
+kept_by_trails undone newest trails =
     record {
-      states = reached undone (Some newest) trails;
-      some = reached_some undone newest trails;
-      few = let h = reached_few undone (Some newest) trails in omega arith;
+      states = reached undone (Some newest) (items trails);
+      some = reached_some undone newest (items trails);
+      few = let h = reached_few undone (Some newest) (items trails) in let l = items_few trails in omega arith;
     }

@@ -1,6 +1,4 @@
 // The keeper that keeps states: the newest, and the eight before it.
-ghost use Rattle.std.specs.Prelude.{◌≤◌, length};
-
 use crate::ring::Ring;
 use interface::answers::Refusal;
 use interface::debt::Debt;
@@ -12,13 +10,12 @@ use interface::keeper::Keeper;
 pub struct Snapshots<G> {
     game: G,
     before: Ring<G>,
-    ghost few: { length before ≤ 8 },
 }
 
 impl<G: Game> Keeper<G> for Snapshots<G> {
     ghost use Rattle.keepers.specs.Keeping.{kept_by_snapshots};
 
-    ghost kept = { λ k. kept_by_snapshots G.words k.game k.before k.few };
+    ghost kept = { λ k. kept_by_snapshots G.words k.game k.before };
 
     fn open(seed: u32) -> Self {
         let game = G::open(seed);
@@ -33,6 +30,7 @@ impl<G: Game> Keeper<G> for Snapshots<G> {
         let _ = self.game.step(first, second);
     }
 
+    #[tactic(auto, using(crate::proofs::Kept::kept_back))]
     fn go_back(&mut self, frames: u32) -> Result<Debt, Refusal> {
         if frames > 0 {
             self.game = self.before.get(frames - 1).ok_or(Refusal::OutOfReach)?;

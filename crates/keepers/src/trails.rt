@@ -1,6 +1,4 @@
 // The keeper that keeps trails: the newest state, and the trails of the eight steps before it.
-ghost use Rattle.std.specs.Prelude.{◌≤◌, length};
-
 use crate::ring::Ring;
 use interface::answers::Refusal;
 use interface::debt::Debt;
@@ -12,13 +10,12 @@ use interface::keeper::Keeper;
 pub struct Trails<G> {
     game: G,
     trails: Ring<Trail>,
-    ghost few: { length trails ≤ 8 },
 }
 
 impl<G: Game> Keeper<G> for Trails<G> {
     ghost use Rattle.keepers.specs.Keeping.{kept_by_trails};
 
-    ghost kept = { λ k. kept_by_trails G.undone (G.words k.game) k.trails k.few };
+    ghost kept = { λ k. kept_by_trails G.undone (G.words k.game) k.trails };
 
     fn open(seed: u32) -> Self {
         Trails {

@@ -13,16 +13,15 @@ fn replays_as_reported(rt: &HostRuntime, name: &str) -> io::Result<bool> {
 
 fn main(rt: HostRuntime) -> io::Result<()> {
     let list = fs::read_to_string(&rt, "list.txt")?;
-    let mut wrong = Vec::new(rt.alloc());
+    let mut wrong = 0u32;
     for name in list.lines() {
         if !replays_as_reported(&rt, name)? {
             println!(rt; "{name}: another report")?;
-            wrong.push(name)?;
+            wrong = wrong.saturating_add(1);
         }
     }
     println!(rt;
-        "{} traces, {} with another report",
-        list.lines().count(),
-        wrong.len()
+        "{} traces, {wrong} with another report",
+        list.lines().count()
     )
 }

@@ -1,5 +1,5 @@
 -- The report on a trace, by its text and the number of records.
-use Rattle.std.specs.Prelude.{ℕ, Bool, true, false, List, [], map, Some, None, Ok, Err, vec_items, Option, Result}
+use Rattle.std.specs.Prelude.{ℕ, Bool, true, false, List, [], map, Some, None, vec_items, Option}
 use Rattle.refine.specs.Memory.{Entry}
 use Rattle.refine.specs.Plays.{Told}
 use Rattle.play.specs.Turns.{told_of}
@@ -21,17 +21,8 @@ pub record Reported : Type 0 where
   pub fault : Option Fault
   pub seats : Option (SeatLine × SeatLine)
 
--- a report ends with the seats or with the fault
-abbrev pub fault_in : Result (SeatLine × SeatLine) Fault → Option Fault
-fault_in (Ok seats) = None
-fault_in (Err f) = Some f
-
-abbrev pub seats_in : Result (SeatLine × SeatLine) Fault → Option (SeatLine × SeatLine)
-seats_in (Ok seats) = Some seats
-seats_in (Err f) = None
-
 abbrev pub reported : Report → Reported
-reported x = record { first = x.first; lines = map told_of (vec_items x.lines); fault = fault_in x.ending; seats = seats_in x.ending }
+reported x = record { first = x.first; lines = map told_of (vec_items x.lines); fault = x.fault; seats = x.seats }
 
 -- a seat's line: how it ends, and the frames replayed in all of its turns
 abbrev pub seat_line : SeatEnd → Bool → List TraceTurn → List Told → SeatLine

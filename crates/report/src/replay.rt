@@ -42,14 +42,15 @@ fn report_turns(
     ensures log { MatchResult result (λ _. entries log.new ≡ log_by first.game first.seed first.match_number (entries log.old) turns.now) (λ _. log.new ≡ log.old) }
 {
     let replayed = replay_match(first, turns, log, heap)?;
-    let ending = match fault {
-        None => Ok(seat_lines(turns, &replayed)),
-        Some(fault) => Err(fault),
+    let seats = match fault {
+        None => Some(seat_lines(turns, &replayed)),
+        Some(_) => None,
     };
     Ok(Report {
         first: Some(first),
         lines: replayed.lines,
-        ending,
+        fault,
+        seats,
     })
 }
 
@@ -63,7 +64,8 @@ pub fn replay(text: &[u8], log: &mut [Record], heap: Global) -> Result<Report, A
         return Ok(Report {
             first: None,
             lines: Vec::new(heap),
-            ending: Err(trace.fault.unwrap()),
+            fault: trace.fault,
+            seats: None,
         });
     };
     report_turns(first, &trace.turns, trace.fault, log, heap)

@@ -22,11 +22,12 @@ impl fmt::Display for SeatLine {
     }
 }
 
-// The first line; what is told of the turn on line 2, line 3 and so on; and the line of each seat, or the fault. There is no first
-// line where the fault lies in it, and there is one with a later fault.
+// The first line; what is told of the turn on line 2, line 3 and so on; and the fault, or the line of each seat. Two Options and no Result:
+// `render` answers a report with neither, or with both, as well.
 #[derive(Drop)]
 pub struct Report {
     pub first: Option<First>,
     pub lines: Vec<Told>,
-    pub ending: Result<(SeatLine, SeatLine), Fault>,
+    pub fault: Option<Fault>,
+    pub seats: Option<(SeatLine, SeatLine)>,
 }

@@ -1,7 +1,7 @@
 // A report as text.
 ghost use Rattle.std.specs.Prelude.{◌≡◌, ◌++◌, map, IfOk, OnOk, string_bytes};
 ghost use Rattle.play.specs.Turns.{told_of};
-ghost use Rattle.report.specs.Reports.{fault_in, seats_in, reported};
+ghost use Rattle.report.specs.Reports.{reported};
 ghost use Rattle.report.specs.Texts.{first_text, turn_texts, fault_text, ending_text, report_text};
 
 use crate::reports::{Report, SeatLine};
@@ -43,16 +43,18 @@ pub fn fault_text(fault: Fault, heap: Global) -> Result<String, AllocError>
     format!(in heap; "fault {number} line {} byte {}\n", fault.line, fault.at)
 }
 
-// The lines of both seats, or the fault.
+// The fault, or else the lines of both seats.
 fn ending_text(
-    ending: Result<(SeatLine, SeatLine), Fault>,
+    fault: Option<Fault>,
+    seats: Option<(SeatLine, SeatLine)>,
     heap: Global,
 ) -> Result<String, AllocError>
-    ensures { IfOk result (λ s. string_bytes s ≡ ending_text (fault_in ending) (seats_in ending)) }
+    ensures { IfOk result (λ s. string_bytes s ≡ ending_text fault seats) }
 {
-    match ending {
-        Ok((first, second)) => format!(in heap; "seat 0 {first}\nseat 1 {second}\n"),
-        Err(fault) => fault_text(fault, heap),
+    match (fault, seats) {
+        (Some(fault), _) => fault_text(fault, heap),
+        (None, Some((first, second))) => format!(in heap; "seat 0 {first}\nseat 1 {second}\n"),
+        (None, None) => Ok(String::new(heap)),
     }
 }
 
@@ -62,6 +64,6 @@ pub fn render(report: &Report, heap: Global) -> Result<String, AllocError>
 {
     let mut text = head(report.first, heap)?;
     write_turns(&mut text, &report.lines)?;
-    text.push_str(&ending_text(report.ending, heap)?)?;
+    text.push_str(&ending_text(report.fault, report.seats, heap)?)?;
     Ok(text)
 }

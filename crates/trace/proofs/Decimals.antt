@@ -1,18 +1,14 @@
 -- Numbers written and read.
-use Rattle.std.proofs.Common.{◌≡◌, ℕ, ◌^◌, ◌<◌, ◌≤◌, true, false, cond, not, ◌&&◌, eqb, leb, List, [], ◌∷◌, length, get_or, Some, None, Ok, Err, decimal, Result, sym, refl, ap, ◌∙◌, ⊎_elim, subst, arith, rules}
+use Rattle.std.proofs.Common.{◌≡◌, ℕ, ◌+◌, ◌-◌, ◌*◌, ◌^◌, ◌<◌, ◌≤◌, Bool, true, false, cond, not, ◌&&◌, eqb, leb, List, [], ◌∷◌, length, get_or, Some, None, decimal, sym, refl, ap, ◌∙◌, ⊎_elim, arith, rules}
 use Rattle.std.specs.Char.{is_ascii_digit}
 use Rattle.std.specs.List.{list_all}
-use Rattle.std.specs.Result.{MatchResult, OkIff, result_ok}
-use Rattle.std.specs.Str.{IsUtf8}
-use Rattle.std.specs.Str.Parse.{ParsesUnsigned}
 use Rattle.std.proofs.lemmas.Option.{cond_some}
-use Rattle.std.proofs.lemmas.Str.{IsUtf8-from_ascii}
 use Rattle.std.specs.Str.{all_ascii_digits}
-use Rattle.std.proofs.lemmas.Str.Parse.{IsNumeralModel, numerals_by_fold, parse_digits}
-use Rattle.std.proofs.lemmas.Fmt.{digits_decimal, digits_value-decimal, decimal-digits_value, decimal_digit, first_decimal, IsAscii-from_digits}
-use Rattle.std.proofs.lemmas.Bool.{le-leb, lt-leb, leb-true, cases_lt, and_parts, and_left, and_right, and_from, ne_eqb, eqb-false, cond-true, not-true}
+use Rattle.std.proofs.lemmas.Str.Parse.{IsNumeralModel, numerals_by_fold}
+use Rattle.std.proofs.lemmas.Fmt.{digits_decimal, digits_value-decimal, decimal-digits_value, decimal_digit, first_decimal}
+use Rattle.std.proofs.lemmas.Bool.{le-leb, lt-leb, leb-true, leb-false, cases_lt, and_parts, and_right, and_from, ne_eqb, eqb-false, cond-true, not-true}
 use Rattle.std.proofs.lemmas.Bool.Decides.{nat_tests}
-use Rattle.trace.specs.Numbers.{most_32, value_after, value, no_leading_zero, numeral, number}
+use Rattle.trace.specs.Numbers.{most_32, value_after, value, no_leading_zero, numeral, digits_after, number}
 use Rattle.trace.proofs.Joins.{Free}
 
 own : IsNumeralModel (λ ds. all_ascii_digits ds ≡ true) (value_after 0)
@@ -38,22 +34,42 @@ number_decimal most n few h =
     let good : numeral (decimal n) ≡ true = and_from _ _ (decimal_no_zero n h) (digits_decimal own n h) in
     cond-true _ (Some (value (decimal n))) None (and_from _ _ good fits) ∙ ap Some v
 
--- a numeral is text, and parses to its number
-pub digits_by_test : (w : List ℕ) → list_all is_ascii_digit w ≡ all_ascii_digits w
-digits_by_test [] = refl
-digits_by_test (c ∷ w) = ap (λ t. is_ascii_digit c && t) (digits_by_test w)
+-- read digit by digit, a number is its value, or nothing from the first byte that is no digit or makes it too large
+value_ge : (n : ℕ) (ds : List ℕ) → n ≤ value_after n ds
+value_ge n [] = omega arith
+value_ge n (c ∷ cs) = let ih = value_ge (10 * n + (c - 48)) cs in omega arith
 
-pub numeral_text : (w : List ℕ) → numeral w ≡ true → IsUtf8 w
-numeral_text w h = IsUtf8-from_ascii w (IsAscii-from_digits w (own.to w (and_parts (no_leading_zero w) (all_ascii_digits w) h).1))
+pub digits_none : (w : List ℕ) → digits_after None w ≡ None
+digits_none [] = refl
+digits_none (c ∷ w) = digits_none w
 
--- what `from_utf8` answers of it
-pub always_text : {T E X : Type 0} (w : List ℕ) (r : Result T E) (P : T → Type 0) (Q : E → Type 0) → numeral w ≡ true → MatchResult r P (λ e. ¬ (IsUtf8 w) × Q e) → result_ok r ≡ None → X
-always_text w (Ok s) P Q h m e = cc
-always_text w (Err f) P Q h m e = absurd (m.0 (numeral_text w h))
+digits_from : (n : ℕ) (w : List ℕ) → n ≤ most_32 → digits_after (Some n) w ≡ cond (all_ascii_digits w && leb (value_after n w) most_32) (Some (value_after n w)) None
+digits_from n [] h = sym (ap (λ t. cond t (Some n) None) (le-leb n most_32 h))
+digits_from n (c ∷ w) h = go (is_ascii_digit c) (leb (10 * n + (c - 48)) most_32) refl refl (λ few. digits_from (10 * n + (c - 48)) w few)
+  where
+    m : ℕ
+    m = 10 * n + (c - 48)
 
-pub of_text : {T E : Type 0} (r : Result T E) (s : T) (P : T → Type 0) (Q : E → Type 0) → MatchResult r P Q → result_ok r ≡ Some s → P s
-of_text (Ok t) s P Q m e = let same : t ≡ s = cc in subst P same m
-of_text (Err f) s P Q m e = cc
+    go : (s t : Bool) → is_ascii_digit c ≡ s → leb m most_32 ≡ t → (m ≤ most_32 → digits_after (Some m) w ≡ cond (all_ascii_digits w && leb (value_after m w) most_32) (Some (value_after m w)) None) → digits_after (cond (is_ascii_digit c && leb m most_32) (Some m) None) w ≡ cond ((is_ascii_digit c && all_ascii_digits w) && leb (value_after m w) most_32) (Some (value_after m w)) None
+    go false t d f ih =
+        ap (λ s. digits_after (cond (s && leb m most_32) (Some m) None) w) d ∙ digits_none w
+        ∙ sym (ap (λ s. cond ((s && all_ascii_digits w) && leb (value_after m w) most_32) (Some (value_after m w)) None) d)
+    go true false d f ih =
+        let more = value_ge m w in
+        let large : most_32 < m = leb-false m most_32 f in
+        let over : leb (value_after m w) most_32 ≡ false = lt-leb (value_after m w) most_32 (omega arith) in
+        ap (λ s. digits_after (cond (s && leb m most_32) (Some m) None) w) d ∙ ap (λ t. digits_after (cond t (Some m) None) w) f ∙ digits_none w
+        ∙ sym (ap (λ t. cond t (Some (value_after m w)) None) (and_right (is_ascii_digit c && all_ascii_digits w) (leb (value_after m w) most_32) over))
+    go true true d f ih =
+        ap (λ s. digits_after (cond (s && leb m most_32) (Some m) None) w) d ∙ ap (λ t. digits_after (cond t (Some m) None) w) f
+        ∙ ih (leb-true m most_32 f)
+        ∙ sym (ap (λ s. cond ((s && all_ascii_digits w) && leb (value_after m w) most_32) (Some (value_after m w)) None) d)
+
+pub digits_number : (w : List ℕ) → no_leading_zero w ≡ true → digits_after (Some 0) w ≡ number most_32 w
+digits_number w zero = digits_from 0 w (omega arith) ∙ sym (ap (λ t. cond ((t && all_ascii_digits w) && leb (value w) most_32) (Some (value w)) None) zero)
+
+pub no_numeral : (w : List ℕ) → no_leading_zero w ≡ false → None ≡ number most_32 w
+no_numeral w zero = sym (ap (λ t. cond ((t && all_ascii_digits w) && leb (value w) most_32) (Some (value w)) None) zero)
 
 lone_zero : (w : List ℕ) → no_leading_zero w ≡ true → get_or w 0 0 ≡ 48 → length w ≡ 1
 lone_zero [] h e = absurd (omega arith)
@@ -63,22 +79,6 @@ lone_zero (c ∷ d ∷ w) h e = absurd (eqb-false c 48 (not-true (eqb c 48) h) e
 has_digit : (w : List ℕ) → no_leading_zero w ≡ true → 0 < length w
 has_digit [] h = cc
 has_digit (c ∷ w) h = omega arith
-
-number_at : {E : Type 0} (w : List ℕ) (r : Result ℕ E) → numeral w ≡ true → 0 < length w → OkIff r ((0 < length w) × (value w < 2 ^ 32)) (value w) → result_ok r ≡ number most_32 w
-number_at w (Ok n) h some p =
-    let small = p.0.1 in
-    let fits : leb (value w) most_32 ≡ true = le-leb (value w) most_32 (omega arith) in
-    ap Some p.1 ∙ sym (cond-true _ (Some (value w)) None (and_from _ _ h fits))
-number_at w (Err e) h some p =
-    sym (ap (λ t. cond t (Some (value w)) None) (and_right (numeral w) (leb (value w) most_32) (lt-leb (value w) most_32 (⊎_elim (λ (small : value w < 2 ^ 32). absurd (p (some, small))) (λ large. omega arith) (cases_lt (value w) (2 ^ 32))))))
-
-pub number_parsed : {E : Type 0} (w : List ℕ) (r : Result ℕ E) → numeral w ≡ true → ParsesUnsigned 32 10 w r → result_ok r ≡ number most_32 w
-number_parsed w r h p =
-    let q = and_parts (no_leading_zero w) (all_ascii_digits w) h in
-    number_at w r h (has_digit w q.0) (parse_digits own 32 w r p q.1)
-
-pub no_numeral : (w : List ℕ) → numeral w ≡ false → None ≡ number most_32 w
-no_numeral w h = sym (ap (λ t. cond t (Some (value w)) None) (and_left (numeral w) (leb (value w) most_32) h))
 
 -- and a word that is a number is as that number is written
 pub decimal_number : (most n : ℕ) (w : List ℕ) → most < 2 ^ 64 → number most w ≡ Some n → (w ≡ decimal n) × (n ≤ most)

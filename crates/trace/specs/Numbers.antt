@@ -1,5 +1,6 @@
 -- Numbers in decimal.
 use Rattle.std.specs.Prelude.{ℕ, ◌+◌, ◌-◌, ◌*◌, Bool, true, false, cond, not, ◌&&◌, List, [], ◌∷◌, Some, None, Option, ◌==◌, nat_le}
+use Rattle.std.specs.Char.{is_ascii_digit}
 use Rattle.std.specs.Str.{all_ascii_digits}
 
 -- the most that a number of 16 bits, and one of 32 bits, is
@@ -30,3 +31,13 @@ numeral w = no_leading_zero w && all_ascii_digits w
 -- the number that a word is, if it is one of at most so much
 abbrev pub number : ℕ → List ℕ → Option ℕ
 number most w = cond (numeral w && nat_le (value w) most) (Some (value w)) None
+
+-- how the code reads it: a number with one digit more, or nothing where the byte is no digit or the number is too large
+abbrev pub with_digit : Option ℕ → ℕ → Option ℕ
+with_digit None c = None
+with_digit (Some n) c = cond (is_ascii_digit c && nat_le (10 * n + (c - 48)) most_32) (Some (10 * n + (c - 48))) None
+
+-- and with all digits of a list
+abbrev pub digits_after : Option ℕ → List ℕ → Option ℕ
+digits_after o [] = o
+digits_after o (c ∷ cs) = digits_after (with_digit o c) cs

@@ -72,6 +72,15 @@ impl Step {
     }
 }
 
+// Which calls a seat is asked by.
+#[derive(Clone, Copy, Debug)]
+enum Asked {
+    // `try_press` and `try_take`, which answer Results.
+    ForResults,
+    // `press` and `take`, which tell the numbers of the table.
+    ForNumbers,
+}
+
 // Steps that are made from a fresh seat on.
 struct Script {
     name: &'static str,
@@ -84,12 +93,13 @@ struct Case {
     keeper: &'static str,
     rule: &'static str,
     second: bool,
+    asked: Asked,
     script: &'static str,
     step: Step,
 }
 
 // Every answer at its edge, and of two that are due the first.
-static SCRIPTS: [Script; 6] = [
+static SCRIPTS: [Script; 7] = [
     // At P 3, R 0 and A 0.
     Script {
         name: "refusals at P 3, R 0 and A 0, and after parting",
@@ -278,7 +288,19 @@ static SCRIPTS: [Script; 6] = [
         name: "codes that were guessed",
         steps: &[
             Step::Press(0, 3, Ok(())),
-            // The report is on the datagram's end.
+            Step::Take(
+                Forged {
+                    codes: &[0; 2],
+                    ..GOOD
+                },
+                Ok((Acceptance::Accepted, 0)),
+            ),
+        ],
+    },
+    Script {
+        name: "codes that were guessed, with the report on the datagram's end",
+        steps: &[
+            Step::Press(0, 3, Ok(())),
             Step::Take(
                 Forged {
                     codes: &[0; 2],
@@ -549,6 +571,48 @@ fn unlent<G: Game, K: Keeper<G>, H: GuessRule<G::Input>>(
     Ok(())
 }
 
+// Presses a code so many times: each but the last is accepted.
+fn presses<G: Game, K: Keeper<G>, H: GuessRule<G::Input>>(
+    rt: &impl Abort,
+    seat: &mut TestSeat<G, K, H>,
+    (code, times): (u16, u32),
+    answer: Result<(), Refusal>,
+    case: Case,
+) {
+    for time in 1..=times {
+        let answer = if time < times { Ok(()) } else { answer };
+        match case.asked {
+            Asked::ForResults => {
+                assert_eq!(rt; seat.try_press(code), answer, "{case:?}: press {time}")
+            }
+            Asked::ForNumbers => {
+                let number = answer.map_or_else(Refusal::number, |()| 0);
+                assert_eq!(rt; seat.press(code), number, "{case:?}: press {time}");
+            }
+        }
+    }
+}
+
+// Takes the bytes of a datagram.
+fn takes<G: Game, K: Keeper<G>, H: GuessRule<G::Input>>(
+    rt: &impl Abort,
+    seat: &mut TestSeat<G, K, H>,
+    bytes: &[u8],
+    answer: Result<(Acceptance, u32), Refusal>,
+    case: Case,
+) {
+    match case.asked {
+        Asked::ForResults => assert_eq!(rt; seat.try_take(bytes), answer, "{case:?}"),
+        Asked::ForNumbers => {
+            let numbers = match answer {
+                Ok((how, frames)) => (how.number(), frames),
+                Err(why) => (why.number(), 0),
+            };
+            assert_eq!(rt; seat.take(bytes), numbers, "{case:?}");
+        }
+    }
+}
+
 // Eight known inputs of the other seat, all own inputs acknowledged, and eight presses.
 fn ahead<G: Game, K: Keeper<G>, H: GuessRule<G::Input>>(
     rt: &impl Abort,
@@ -562,18 +626,9 @@ fn ahead<G: Game, K: Keeper<G>, H: GuessRule<G::Input>>(
         acknowledgement: u16::try_from(played)?,
         ..GOOD
     })?;
-    assert_eq!(rt;
-        seat.try_take(bytes.as_slice()),
-        Ok((Acceptance::Accepted, 0)),
-        "{case:?}: ahead from frame {played}"
-    );
-    for frame in played..played.saturating_add(8) {
-        assert_eq!(rt;
-            seat.try_press(2),
-            Ok(()),
-            "{case:?}: ahead at frame {frame}"
-        );
-    }
+    let accepted = Ok((Acceptance::Accepted, 0));
+    takes(rt, seat, bytes.as_slice(), accepted, case);
+    presses(rt, seat, (2, 8), Ok(()), case);
     Ok(())
 }
 
@@ -584,40 +639,22 @@ fn answers<G: Game, K: Keeper<G>, H: GuessRule<G::Input>>(
     case: Case,
 ) -> Result<(), Fail> {
     match case.step {
-        Step::Press(code, times, answer) => {
-            let mut told = Ok(());
-            for _ in 0..times {
-                told = seat.try_press(code);
-            }
-            assert_eq!(rt; told, answer, "{case:?}");
-            if let Err(why) = answer {
-                assert_eq!(rt; seat.press(code), why.number(), "{case:?} by its number");
-            }
-        }
+        Step::Press(code, times, answer) => presses(rt, seat, (code, times), answer, case),
         Step::Take(forged, answer) => {
             let bytes = seat.forge(forged)?;
-            assert_eq!(rt; seat.try_take(bytes.as_slice()), answer, "{case:?}");
-            if let Err(why) = answer {
-                let told = seat.take(bytes.as_slice());
-                assert_eq!(rt; told, (why.number(), 0), "{case:?} by its number");
-            }
+            takes(rt, seat, bytes.as_slice(), answer, case);
         }
         Step::Damaged(forged, damages, why) => {
             let mut bytes = seat.forge(forged)?;
             for damage in damages {
                 damage.done_to(&mut bytes);
             }
-            assert_eq!(rt; seat.try_take(bytes.as_slice()), Err(why), "{case:?}");
-            let told = seat.take(bytes.as_slice());
-            assert_eq!(rt; told, (why.number(), 0), "{case:?} by its number");
+            takes(rt, seat, bytes.as_slice(), Err(why), case);
         }
         Step::Late(forged) => {
             let bytes = seat.forge(forged)?;
-            assert_eq!(rt;
-                seat.try_take(bytes.as_slice()),
-                Ok((Acceptance::Accepted, 0)),
-                "{case:?}"
-            );
+            let accepted = Ok((Acceptance::Accepted, 0));
+            takes(rt, seat, bytes.as_slice(), accepted, case);
         }
         Step::Send(room, answer) => {
             let mut buffer = [170; 100];
@@ -652,6 +689,7 @@ fn run<G: Game, K: Keeper<G> + Drop, H: GuessRule<G::Input> + Drop>(
     keeper: &'static str,
     rule: &'static str,
     second: bool,
+    asked: Asked,
     lent: Lent<G::Input>,
     script: &Script,
 ) -> Result<Lent<G::Input>, Fail> {
@@ -661,6 +699,7 @@ fn run<G: Game, K: Keeper<G> + Drop, H: GuessRule<G::Input> + Drop>(
             keeper,
             rule,
             second,
+            asked,
             script: script.name,
             step: *step,
         };
@@ -673,16 +712,18 @@ fn run<G: Game, K: Keeper<G> + Drop, H: GuessRule<G::Input> + Drop>(
     Ok(seat.into_lent())
 }
 
-// The scripts at both seats.
+// The scripts at both seats, by both kinds of calls.
 fn both_seats<G: Game, K: Keeper<G> + Drop, H: GuessRule<G::Input> + Drop>(
     rt: &impl Abort,
     keeper: &'static str,
     rule: &'static str,
     mut lent: Lent<G::Input>,
 ) -> Result<Lent<G::Input>, Fail> {
-    for second in [false, true] {
-        for script in &SCRIPTS {
-            lent = run::<G, K, H>(rt, keeper, rule, second, lent, script)?;
+    for asked in [Asked::ForResults, Asked::ForNumbers] {
+        for second in [false, true] {
+            for script in &SCRIPTS {
+                lent = run::<G, K, H>(rt, keeper, rule, second, asked, lent, script)?;
+            }
         }
     }
     Ok(lent)
@@ -704,7 +745,9 @@ fn duel_seats(rt: HostRuntime) -> Result<(), Fail> {
     let mut lent = Lent::new(rt.alloc())?;
     lent = both_rules::<Duel, Snapshots<Duel>>(&rt, "snapshots", lent)?;
     lent = both_rules::<Duel, Trails<Duel>>(&rt, "trails", lent)?;
-    let _ = run::<Duel, Trails<Duel>, Hold>(&rt, "trails", "hold", true, lent, &LONG)?;
+    for asked in [Asked::ForResults, Asked::ForNumbers] {
+        lent = run::<Duel, Trails<Duel>, Hold>(&rt, "trails", "hold", true, asked, lent, &LONG)?;
+    }
     Ok(())
 }
 
@@ -713,7 +756,17 @@ fn speed_seats(rt: HostRuntime) -> Result<(), Fail> {
     let mut lent = Lent::new(rt.alloc())?;
     lent = both_rules::<Speed, Snapshots<Speed>>(&rt, "snapshots", lent)?;
     lent = both_rules::<Speed, Trails<Speed>>(&rt, "trails", lent)?;
-    let _ = run::<Speed, Snapshots<Speed>, Still>(&rt, "snapshots", "still", false, lent, &LONG)?;
+    for asked in [Asked::ForResults, Asked::ForNumbers] {
+        lent = run::<Speed, Snapshots<Speed>, Still>(
+            &rt,
+            "snapshots",
+            "still",
+            false,
+            asked,
+            lent,
+            &LONG,
+        )?;
+    }
     Ok(())
 }
 

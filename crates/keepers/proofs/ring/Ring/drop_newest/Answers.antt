@@ -1,8 +1,8 @@
-use Rattle.std.proofs.Common.{drop, ap, ◌∙◌, arith}
+use Rattle.std.proofs.Common.{arith}
 use Rattle.keepers.proofs.Around.{around_dropped}
 use Rattle.keepers.proofs.ring.Ring.drop_newest.Goals as goal
 
 pub returns : goal.returns
 returns g c =
-    let r = c.self.inside in
-    around_dropped r.places r.newest r.count c.min-gone.result _ (omega arith) c.self.invariant.0 c.self.invariant.1 c.min-gone.ensures ∙ ap (drop c.args.n) c.self.view_is
+    let r = c.args.self.now in
+    around_dropped r.places r.newest r.count c.min-gone.result _ (omega arith) r.inside r.few c.min-gone.ensures
